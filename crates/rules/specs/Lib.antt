@@ -1,0 +1,29 @@
+-- Document 01 as definitions. Each file stands for a section of the paper and quotes its sentences above the definitions that say them.
+--   01, Units                            Units
+--   01, The systems                      Systems
+--   01, The projection as whole numbers  Scaled (arithmetic, series), Projection (forward, inverse), Rounding (nearest, the band), Polynomial (the step in f64),
+--                                        Points (what forward, inverse and plane to plane answer)
+--   01, Rings                            Rings (the rules), Crossing (the crossing test, by computing), Nozzle (checks and answers of a ring), Conversion
+--   01, The job file                     JobFile
+--   01, Refusal numbers and their order  Refusals (the numbers, and checks in order); each call's order stands in its own definition
+--   01, Numbers to try                   Numbers (P1 to P12), Worked (J, the bow tie, the numbers to run, a point of each code)
+--   demand 3                             Demand
+-- Computing opens every definition at once, for statements by computation. Proofs holds what is proved of the rules, and is not needed to read them.
+pub mod Units
+pub mod Refusals
+pub mod Systems
+pub mod Scaled
+pub mod Projection
+pub mod Rounding
+pub mod Polynomial
+pub mod Points
+pub mod Rings
+pub mod Crossing
+pub mod RingAnswers
+pub mod Conversion
+pub mod JobFile
+pub mod Computing
+pub mod Numbers
+pub mod Worked
+pub mod Demand
+pub mod Proofs
