@@ -10,14 +10,14 @@ use Rattle.rules.specs.Crossing.{crossed}
 use Rattle.rules.specs.Computing.{computing}
 use Rattle.rules.specs.Proofs.Pairs.{crossed-some}
 
-abbrev at : ℕ → ℕ → Corner
+abbrev pub at : ℕ → ℕ → Corner
 at x y = record { x = pos x; y = pos y }
 
 -- "the square of J", "the bow tie above"
-pub square : List Corner
+unfoldable pub square : List Corner
 square = at 0 0 ∷ at 1000 0 ∷ at 1000 1000 ∷ at 0 1000 ∷ []
 
-pub bow : List Corner
+unfoldable pub bow : List Corner
 bow = at 0 0 ∷ at 1000 1000 ∷ at 1000 0 ∷ at 0 1000 ∷ []
 
 pub record Numbers : Type 0 where

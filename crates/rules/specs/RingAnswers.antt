@@ -5,7 +5,7 @@ use mathlib.Core.List.{List, [], _∷_, map}
 use Prim.Native.Nat.{ℕ, _^_}
 use lib.Dec.{ltb}
 use lib.IntN.{ℤ, pos, _-ℤ_}
-use lib.Signed.{ltZ}
+use lib.Signed.{leZ, ltZ}
 use lib.ListN.{length}
 use Rattle.rules.specs.Refusals.{Answer, answered, refused, crossed-at, Passed, passed, _>>=_, _>>_, _if_, corner-count, corner-number, span-too-large}
 use Rattle.rules.specs.Points.{above}

@@ -1,6 +1,6 @@
 -- 01, The job file and Numbers to try: the worked outputs, and the numbers to run, of the definitions themselves, by computation. Assumes nothing.
 use mathlib.Core.Path.{_≡_, refl}
-use mathlib.Core.List.{List, [], _∷_, _++_}
+use mathlib.Core.List.{List, [], _∷_, _++_, reverse}
 use Prim.Native.Nat.{ℕ, _+_, _*_, _/_, _%_, _^_}
 use lib.IntN.{ℤ, pos, negℤ}
 use lib.ListN.{length, replicate}
@@ -11,7 +11,8 @@ use Rattle.rules.specs.Points as P
 use Rattle.rules.specs.RingAnswers as N
 use Rattle.rules.specs.Rounding.{nearest}
 use Rattle.rules.specs.Polynomial.{double-unit, exact}
-use Rattle.rules.specs.Rings.{origin}
+use Rattle.rules.specs.Rings.{Corner, origin}
+use Rattle.rules.specs.Numbers.{at, square, bow}
 use Rattle.rules.specs.Conversion.{held, conversion}
 use Rattle.rules.specs.JobFile.{text, cornered, job}
 use Rattle.rules.specs.Computing.{computing}
@@ -153,6 +154,43 @@ runs = record {
   exact-1 = refl;
   exact-i = refl;
   d-0 = refl;
+}
+
+-- ---- nozzles: "border if on an edge; otherwise open if the turning number isn't 0; otherwise shut. Refused for a crossed ring."
+abbrev flat : List Corner → List ℤ
+flat [] = []
+flat (c ∷ r) = c .x ∷ c .y ∷ flat r
+
+pub record Nozzles : Type 0 where
+  pub inside : N.nozzle-answer (flat square) (at 500 500) ≡ answered N.open-nozzle
+  pub on-edge : N.nozzle-answer (flat square) (at 0 500) ≡ answered N.border-nozzle
+  pub outside : N.nozzle-answer (flat square) (at 1500 500) ≡ answered N.shut-nozzle
+  -- "Taking only +1 as inside: an anticlockwise field stays shut."
+  pub anticlockwise : N.nozzle-answer (flat (reverse square)) (at 500 500) ≡ answered N.open-nozzle
+  -- "Refused for a crossed ring. Turning number and area answer for crossed rings too."
+  pub crossed : N.nozzle-answer (flat bow) (at 900 500) ≡ Answer.crossed-at 0 2
+  pub crossed-turning : N.turning-answer (flat bow) (at 900 500) ≡ answered (negℤ (pos 1))
+  pub crossed-area : N.area-answer (flat bow) ≡ answered (pos 0)
+  -- "Forgetting that the last edge neighbours the first."
+  pub last-and-first : N.crossing-answer (flat square) ≡ answered passed
+  -- "an edge of no length also makes a pair with the edge after it": edge 0 with edge 1
+  pub no-length : N.crossing-answer (flat (at 0 0 ∷ at 0 0 ∷ at 5 0 ∷ at 0 5 ∷ [])) ≡ Answer.crossed-at 0 1
+  -- "a corner list of odd length"
+  pub odd-list : N.area-answer (pos 0 ∷ flat square) ≡ refused 6
+
+pub nozzles : Nozzles
+unfolding square bow computing
+nozzles = record {
+  inside = refl;
+  on-edge = refl;
+  outside = refl;
+  anticlockwise = refl;
+  crossed = refl;
+  crossed-turning = refl;
+  crossed-area = refl;
+  last-and-first = refl;
+  no-length = refl;
+  odd-list = refl;
 }
 
 -- ---- "Projected numbers are compared with an independent, more precise program": one point of each code, as that program rounds it
