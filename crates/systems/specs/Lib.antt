@@ -1,0 +1,4 @@
+-- The root.
+pub mod Zones
+pub mod Rows
+pub mod Limits
