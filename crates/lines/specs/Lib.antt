@@ -1,0 +1,2 @@
+-- What the contracts of the line writer cite.
+pub mod Said

@@ -1,0 +1,7 @@
+-- Laws that the functions' proofs cite.
+pub mod Checking
+pub mod Locating
+pub mod Parts
+pub mod Sides
+pub mod Standing
+pub mod Undoing

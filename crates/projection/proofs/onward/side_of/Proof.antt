@@ -1,0 +1,61 @@
+-- `projection::onward::side_of` meets its contract. Assumes nothing.
+use mathlib.Core.Path.{_≡_, sym, ap, ap₂, _∙_, subst}
+use Prim.Native.Nat.{ℕ, _≤_, _^_}
+use native.Mathlib.Omega.{arith}
+use lib.Dec.{T}
+use lib.IntN.{ℤ, pos, natAbs, _-ℤ_}
+use lib.Signed.{nonNeg}
+use mir.Syntax.{w64}
+use mir.Val.{SFits, Fits, toZ, ofZ}
+use mir.Facts.{toZ-ofZ}
+use Rattle.arith.specs.Within.{by-abs, w-fits}
+use Rattle.arith.specs.Machine.{Is, v-is, v-num, v-sub, need-sub, lt-yes, lt-no}
+use Rattle.projection.proofs.Sides.{minus-size, west-side, east-side, nonneg, minus-nonneg}
+use Rattle.projection.proofs.onward.side_of.Statement.{statement}
+use Rattle.projection.proofs.onward.side_of.Tie as tie
+use Rattle.projection.proofs.onward.side_of.Reads as reads
+use Rattle.projection.proofs.onward.side_of.Lts as lts
+
+module _ (c : tie.Start) where
+  abbrev z : ℤ
+  z = c .args .l -ℤ c .args .meridian
+
+  d-fits : SFits w64 (toZ w64 (ofZ w64 (c .args .l)) -ℤ toZ w64 (ofZ w64 (c .args .meridian)))
+  d-fits = rw (toZ-ofZ (c .fits .l), toZ-ofZ (c .fits .meridian)) (w-fits (by-abs z (c .pre)) tt)
+
+  d-is : Is (toZ w64 (ofZ w64 (toZ w64 (ofZ w64 (c .args .l)) -ℤ toZ w64 (ofZ w64 (c .args .meridian))))) z 19800000000
+  d-is = v-is (toZ-ofZ d-fits ∙ ap₂ _-ℤ_ (toZ-ofZ (c .fits .l)) (toZ-ofZ (c .fits .meridian))) (c .pre)
+
+word : (n : ℕ) → n ≤ 19800000000 → Fits w64 n
+word n h = record { fits = omega arith }
+
+-- src/onward.rt:27:13
+sub-d : tie.Need-sub-d
+sub-d c = d-fits c
+
+-- src/onward.rt:31:21
+sub-t5 : tie.Need-sub-t5
+sub-t5 c = need-sub (v-num 0) (d-is (c .before)) tt
+
+-- src/onward.rt:31:20
+cast-t6 : tie.Need-cast-t6
+cast-t6 c =
+    let m = v-sub w64 (v-num 0) (d-is (c .before)) tt in
+    subst (λ x. T (nonNeg x) × Fits w64 (natAbs x)) (sym (m .is)) (nonneg _ (minus-nonneg (z (c .before)) (lt-yes (d-is (c .before)) (v-num 0) (c .if1 .taken))), word _ (m .size))
+
+-- src/onward.rt:29:9
+returns : tie.Need-returns
+returns c =
+    let m = v-sub w64 (v-num 0) (d-is (c .before)) tt in
+    (west-side (z (c .before)) (lt-yes (d-is (c .before)) (v-num 0) (c .if1 .taken)), ap natAbs (m .is) ∙ minus-size (z (c .before)))
+
+-- src/onward.rt:36:16
+cast-t7 : tie.Need-cast-t7
+cast-t7 c = subst (λ x. T (nonNeg x) × Fits w64 (natAbs x)) (sym (d-is (c .before) .is)) (nonneg _ (lt-no (d-is (c .before)) (v-num 0) (c .if1 .left)), word _ (c .before .pre))
+
+-- src/onward.rt:23:1
+returns-2 : tie.Need-returns-2
+returns-2 c = (east-side (z (c .before)) (lt-no (d-is (c .before)) (v-num 0) (c .if1 .left)), ap natAbs (d-is (c .before) .is))
+
+pub side-of-spec : {M : Type 1} → statement M
+side-of-spec = tie.close (tie.spec sub-d sub-t5 cast-t6 returns cast-t7 returns-2)

@@ -1,0 +1,20 @@
+-- How near the worked values are to the definition's.
+pub mod Millimetres
+pub mod Argument
+pub mod Plane
+pub mod West
+pub mod Size
+pub mod Forward
+pub mod Finite
+pub mod Slope
+pub mod SlopeParts
+pub mod Derivative
+pub mod InverseUndone
+pub mod InversePlane
+pub mod InverseLine
+pub mod InverseRange
+pub mod InverseSizes
+pub mod InverseTicks
+pub mod InverseBox
+pub mod Inverse
+pub mod Point

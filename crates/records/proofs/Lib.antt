@@ -1,0 +1,2 @@
+-- What the proofs of the record reader share.
+pub mod Laws

@@ -1,0 +1,5 @@
+-- What the terminal's contracts and proofs cite. Lent: what is owed for an answer. Edges: the edge numbers of refusal 9 fit what C lends.
+-- Zero: a call that returns 0 has answered.
+pub mod Lent
+pub mod Edges
+pub mod Zero

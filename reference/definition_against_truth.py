@@ -1,0 +1,62 @@
+"""How far the definition at 10^24 lies from the true functions: the largest difference of each unrounded answer, for each code, on a grid over its whole zone.
+
+    python3 reference/definition_against_truth.py [STEPS]
+
+Differences are in the units of the answers. The answers are held to the definition by the band of 0.6; this says what the judgement by true functions adds
+to it. Assumes Python 3.9 or newer and its standard library.
+"""
+
+import sys
+from decimal import Decimal
+
+import definition
+import projection
+from systems import DEGREE, SYSTEMS
+
+UNIT = Decimal(definition.UNIT)
+
+
+def forward_difference(system, B, L):
+    offsets = (1000 * system.x0, 1000 * system.y0, 0, 0)
+    true = projection.forward_raw(system, B, L)
+    whole = definition.forward(system, B, L)
+    return [abs(offset + Decimal(number) / UNIT - value) for offset, number, value in zip(offsets, whole, true)]
+
+
+def inverse_difference(system, X, Y):
+    true = projection.inverse_raw(system, X, Y)
+    whole = definition.inverse(system, X, Y)
+    return [abs(offset + Decimal(number) / UNIT - value) for offset, number, value in zip((0, system.L0), whole, true)]
+
+
+def forward_grid(system, steps):
+    """d below 0, at 0 and above it, ends of the zone included."""
+    for i in range(steps + 1):
+        for j in range(-steps, steps + 1):
+            yield 48 * DEGREE + 8 * DEGREE * i // steps, system.L0 + system.half_width * j // steps
+
+
+def box_grid(system, steps):
+    """The whole box of refusal 4, in whole millimetres."""
+    m0 = Decimal(system.m0)
+    for i in range(steps + 1):
+        for j in range(-steps, steps + 1):
+            north = 5_300_000_000 + 950_000_000 * i // steps
+            east = 420_000_000 * j // steps
+            yield int(1000 * system.x0 + m0 * north), int(1000 * system.y0 + m0 * east)
+
+
+def largest(differences):
+    return [max(column) for column in zip(*differences)]
+
+
+def main(steps):
+    print("code    X mm    Y mm   scale   conv.  B tick  L tick   (B and L over the whole box of refusal 4)")
+    for system in SYSTEMS.values():
+        there = largest([forward_difference(system, B, L) for B, L in forward_grid(system, steps)])
+        back = largest([inverse_difference(system, X, Y) for X, Y in box_grid(system, steps)])
+        print("%4d %s" % (system.code, " ".join("%7.1e" % value for value in there + back)))
+
+
+if __name__ == "__main__":
+    main(int(sys.argv[1]) if len(sys.argv) > 1 else 16)

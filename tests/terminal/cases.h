@@ -1,0 +1,24 @@
+/* The parts of the driver. Each makes inputs from the random numbers of random.h, calls the library and judges what comes back. Assumes nothing. */
+#ifndef CASES_H
+#define CASES_H
+
+#include <stddef.h>
+#include <stdint.h>
+
+/* The worked numbers of document 01: rings always, points where the projection is judged. */
+void known_rings(void);
+void known_points(void);
+
+/* Random rings: every ring call on each. */
+void ring_cases(uint64_t rounds);
+
+/* Random points: forward, inverse, plane to plane. */
+void point_cases(uint64_t rounds);
+
+/* Random rings to convert: with the projection, each corner is held to misgwalor_plane_to_plane. */
+void conversion_cases(uint64_t rounds);
+
+/* A random ring of `count` numbers at most into `numbers`, accepted or not; says how many numbers it has. */
+size_t random_ring(int64_t *numbers, size_t most);
+
+#endif
