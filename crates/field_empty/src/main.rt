@@ -1,0 +1,4 @@
+// The field program on an empty file.
+fn main() {
+    console::run();
+}

@@ -1,0 +1,116 @@
+-- One whole record: its line, and how far the run is after it; and the end of the file. Assumes nothing.
+use mathlib.Core.Path.{_≡_, refl, sym, ap, _∙_}
+use mathlib.Core.Bool.{Bool, true, false, _||_}
+use mathlib.Core.List.{List, [], _∷_}
+use Prim.Native.Nat.{ℕ, zero, suc, _+_, _%_, _^_, _≤_, _<_}
+use native.Mathlib.Omega.{arith}
+use borrow.Author.Tests.{lt-ltb, le-ltb}
+use lib.Dec.{ltb}
+use lib.ListN.{length, take, length-take}
+use Rattle.rules.specs.Refusals as rules
+use Rattle.rules.specs.Refusals.{body-cut-off}
+use Rattle.rules.specs.Rings as ring
+use Rattle.rules.specs.RingAnswers.{count-bad, span-bad}
+use Rattle.rules.specs.JobFile.{State, no-field, accepted, Step, ending}
+use Rattle.lines.specs.declared.Line.{Line}
+use Rattle.lines.specs.Said.{said, pasted}
+use Rattle.job.specs.declared.state.Answer as answers
+use Rattle.job.specs.declared.state.Answer.the-variants as case
+use Rattle.job.specs.declared.state.Phase as phases
+use Rattle.job.specs.declared.state.Phase.the-variants.{Idle, Gathering, Accepted}
+use Rattle.job.specs.declared.run.Run.{Run}
+use Rattle.job.specs.Gathered.{chosen, ring-of}
+use Rattle.job.specs.States.{view-by, view, line, paper}
+use Rattle.job.specs.Machine.{running, stopped, advanced, finished, Says, printed-at, refusal-text, held-of, progress-by}
+use Rattle.job.specs.Runs.{refuses, progress, Advancing, ending-by, last, last-text, Finishing}
+
+pub said-short : (l : Line) → l .count ≤ 128 → length (said l) ≤ 128
+said-short l h = simp length-take (omega arith)
+
+module _ (offset count size : ℕ) where
+  line-is : (a : answers.Answer) (s : State) → advanced offset count size (paper a s) .printed ≡ printed-at a offset
+  unfolding advanced
+  line-is case.Silent s = refl
+  line-is (case.Field c n k) s = refl
+  line-is (case.Nozzle X Y p) s = refl
+  line-is (case.Point X Y k c) s = refl
+  line-is (case.Refused n) s = refl
+  line-is (case.Crossed i j) s = refl
+
+  next-is : (a : answers.Answer) (s : State)
+      → progress-by (refuses a) s ((offset + size) % 2 ^ 64) ((count + 1) % 2 ^ 64) [] ≡ advanced offset count size (paper a s) .next
+  unfolding advanced
+  next-is case.Silent s = refl
+  next-is (case.Field c n k) s = refl
+  next-is (case.Nozzle X Y p) s = refl
+  next-is (case.Point X Y k c) s = refl
+  next-is (case.Refused n) s = refl
+  next-is (case.Crossed i j) s = refl
+
+  pub advances-by : {out out′ : List ℕ} {wrote end : ℕ} {l : Line} {t : rules.Answer Step} (a : answers.Answer) (r : Run)
+      → paper a (view (r .job)) ≡ t → Says (printed-at a offset) l
+      → r .stopped ≡ refuses a → r .place .offset ≡ (offset + size) % 2 ^ 64 → r .place .records ≡ (count + 1) % 2 ^ 64 → held-of (r .held .count) (r .held .bytes) ≡ []
+      → end ≡ wrote + length (said l) → out′ ≡ pasted wrote (said l) out
+      → Advancing (advanced offset count size t) out wrote (record { run = r; wrote = end }) out′
+  advances-by {out} {out′} {wrote} {end} {l} {t} a r e says st o n h ends holds =
+      rw (← e)
+      (record {
+        short = rw (line-is a (view (r .job)), ← says .says) (said-short l (says .short));
+        end = rw (line-is a (view (r .job)), ← says .says) ends;
+        holds = rw (line-is a (view (r .job)), ← says .says) holds;
+        next = rw (st, o, n, h) (next-is a (view (r .job)));
+      })
+
+-- ---- the end of the file
+pub ending-is : (p : phases.Phase) (c : ℕ) (r : List ring.Corner) (offset count : ℕ) → ending (view-by p c r) offset count ≡ ending-by p offset count
+unfolding ending
+ending-is Idle c r offset count = refl
+ending-is Gathering c r offset count = refl
+ending-is Accepted c r offset count = go (count-bad r || span-bad r)
+  where
+    go : (b : Bool) → ending (chosen b no-field (accepted r)) offset count ≡ ending-by Accepted offset count
+    go true = refl
+    go false = refl
+
+last-is : (c : ℕ) (bytes : List ℕ) (s : State) (offset count : ℕ) → length bytes ≡ 18
+    → finished (running s offset count (held-of c bytes))
+    ≡ chosen (ltb 17 c) (ending s offset count) (chosen (ltb 0 c) (refusal-text body-cut-off offset) (ending s offset count))
+unfolding finished
+last-is zero bytes s offset count e = refl
+last-is (suc c) [] s offset count e = absurd (omega arith)
+last-is (suc c) (b ∷ bytes) s offset count e = go (ltb 17 (suc c)) refl
+  where
+    go : (t : Bool) → ltb 17 (suc c) ≡ t
+        → finished (running s offset count (take (chosen t 0 (suc c)) (b ∷ bytes))) ≡ chosen t (ending s offset count) (chosen (ltb 0 (suc c)) (refusal-text body-cut-off offset) (ending s offset count))
+    go true f = refl
+    go false f = rw (lt-ltb 0 (suc c) (omega arith)) refl
+
+pub finished-is : (r : Run) → length (r .held .bytes) ≡ 18 → r .stopped ≡ false
+    → finished (progress r) ≡ last (r .held .count) (r .job .phase) (r .place .offset) (r .place .records)
+finished-is r e f =
+    rw f
+    (last-is (r .held .count) (r .held .bytes) (view (r .job)) (r .place .offset) (r .place .records) e
+    ∙ ap (λ (t : List ℕ). chosen (ltb 17 (r .held .count)) t (chosen (ltb 0 (r .held .count)) (refusal-text body-cut-off (r .place .offset)) t))
+    (ending-is (r .job .phase) (r .job .code) (ring-of (r .job .count) (r .job .corners)) (r .place .offset) (r .place .records)))
+
+pub finishing : (r : Run) (out : List ℕ) {l : Line} {wrote : ℕ} {out′ : List ℕ} → length (r .held .bytes) ≡ 18 → r .stopped ≡ false → 128 ≤ length out
+    → Says (last (r .held .count) (r .job .phase) (r .place .offset) (r .place .records)) l → wrote ≡ 0 + length (said l) → out′ ≡ pasted 0 (said l) out
+    → Finishing r out wrote out′
+finishing r out {l} {wrote} {out′} e f room says w h =
+    let t : last-text (length out) (progress r) ≡ said l =
+    ap (λ (b : Bool). chosen b [] (finished (progress r))) (le-ltb (length out) 128 room) ∙ finished-is r e f ∙ sym (says .says) in
+    record { wrote-is = rw t (w ∙ none (length (said l))); holds = rw t h; room = let k = said-short l (says .short) in omega arith }
+  where
+    none : (n : ℕ) → 0 + n ≡ n
+    none n = omega arith
+
+pub finishing-short : (r : Run) (out : List ℕ) → length out < 128 → Finishing r out 0 out
+finishing-short r out h = record { wrote-is = rw (lt-ltb (length out) 128 h) refl; holds = rw (lt-ltb (length out) 128 h) refl; room = omega arith }
+
+pub finishing-stopped : (r : Run) (out : List ℕ) → 128 ≤ length out → r .stopped ≡ true → Finishing r out 0 out
+unfolding finished
+finishing-stopped r out h f =
+    let t : last-text (length out) (progress r) ≡ [] =
+    ap (λ (b : Bool). chosen b [] (finished (progress r))) (le-ltb (length out) 128 h)
+    ∙ ap (λ (b : Bool). finished (progress-by b (view (r .job)) (r .place .offset) (r .place .records) (held-of (r .held .count) (r .held .bytes)))) f in
+    record { wrote-is = rw t refl; holds = rw t refl; room = omega arith }

@@ -1,0 +1,251 @@
+// A job over a whole file's bytes, in chunks of any size: `feed` takes a chunk and writes the lines that its records print, `finish` the last line.
+// The bytes of a record that a chunk cuts are held until the rest comes. What is written, over all chunks, is the rules' job of the whole file.
+ghost use mathlib.Core.Path.{_≡_};
+ghost use mathlib.Core.List.{_++_, _∷_, []};
+ghost use Prim.Native.Nat.{_+_, _%_, _^_, _≤_};
+ghost use lib.ListN.{length, take};
+ghost use Rattle.projection.specs.Worked.{worked-forward};
+ghost use Rattle.records.specs.Reader.{read-at};
+ghost use Rattle.job.specs.States.{view, stepped};
+ghost use Rattle.job.specs.Machine.{Says, running, advanced, settled, held-of};
+ghost use Rattle.rules.specs.JobFile.{no-field};
+ghost use Rattle.job.specs.Runs.{Advancing, Feeding, Finishing, progress, refuses, ending-by, last};
+use crate::line;
+use crate::state::Answer;
+use crate::state::Job;
+use crate::state::Phase;
+use lines::Line;
+use records::Cursor;
+use records::Read;
+use records::Record;
+
+// The bytes so far of the record that is begun: the first `count`.
+pub struct Held {
+    pub bytes: [u8; 18],
+    pub count: usize,
+}
+
+// The offset of the record that is begun, and how many came before it.
+pub struct Place {
+    pub offset: u64,
+    pub records: u64,
+}
+
+pub struct Run {
+    pub job: Job,
+    pub held: Held,
+    pub place: Place,
+    pub stopped: bool,
+}
+
+// The run after a chunk, how many of its bytes were taken, and how many were written.
+pub struct Fed {
+    pub run: Run,
+    pub used: usize,
+    pub wrote: usize,
+}
+
+struct Advanced {
+    run: Run,
+    wrote: usize,
+}
+
+impl Held {
+    fn none() -> Held
+        ensures { λ r. ⌜ held-of (r .count) (r .bytes) ≡ [] ⌝ }
+    {
+        Held {
+            bytes: [0u8; 18],
+            count: 0,
+        }
+    }
+
+    // One byte more.
+    fn with(mut self, byte: u8) -> Held
+        ensures { λ r. ⌜ (r .count ≤ 18) × (take (r .count) (r .bytes) ≡ held-of (self .count) (self .bytes) ++ (byte ∷ [])) × (length (r .bytes) ≡ 18) ⌝ }
+    {
+        let at = settled(self.count);
+        self.bytes[at] = byte;
+        self.count = at + 1;
+        self
+    }
+
+    fn read(self) -> Read
+        requires { ⌜ self .count ≤ 18 ⌝ }
+        ensures { λ r. ⌜ r ≡ read-at (take (self .count) (self .bytes)) 0 ⌝ }
+    {
+        let bytes = self.bytes;
+        let count = self.count;
+        Cursor::start().read(&bytes[0..count])
+    }
+}
+
+// A count that no record has held, past 17, is none.
+fn settled(count: usize) -> usize
+    ensures { λ r. ⌜ r ≡ settled count ⌝ }
+{
+    if 17 < count {
+        return 0;
+    }
+    count
+}
+
+impl Place {
+    fn after(self, size: usize) -> Place
+        ensures { λ r. ⌜ (r .offset ≡ (self .offset + size) % 2 ^ 64) × (r .records ≡ (self .records + 1) % 2 ^ 64) ⌝ }
+    {
+        Place {
+            offset: std::num::wrapping_add_u64(self.offset, size as u64),
+            records: std::num::wrapping_add_u64(self.records, 1),
+        }
+    }
+}
+
+fn refuses(answer: Answer) -> bool
+    ensures { λ r. ⌜ r ≡ refuses answer ⌝ }
+{
+    match answer {
+        Answer::Silent => false,
+        Answer::Field(_, _, _) => false,
+        Answer::Nozzle(_, _, _) => false,
+        Answer::Point(_, _, _, _) => false,
+        Answer::Refused(_) => true,
+        Answer::Crossed(_, _) => true,
+    }
+}
+
+impl Run {
+    pub fn new() -> Run
+        ensures { λ r. ⌜ progress r ≡ running no-field 0 0 [] ⌝ }
+    {
+        Run {
+            job: Job::new(),
+            held: Held::none(),
+            place: Place {
+                offset: 0,
+                records: 0,
+            },
+            stopped: false,
+        }
+    }
+
+    // One whole record of `size` bytes: the job after it, and its line behind what was written.
+    fn advance(self, item: Record, size: usize, out: &mut [u8], wrote: usize) -> Advanced
+        requires { ⌜ wrote + 128 ≤ length (now out) ⌝ }
+        ensures { λ r. ⌜ Advancing (advanced (self .place .offset) (self .place .records) size (stepped worked-forward (view (self .job)) item)) (now (out .entry)) wrote r (now (out .exit)) ⌝ }
+    {
+        let job = self.job;
+        let place = self.place;
+        let taken = job.take(item);
+        let answer = taken.answer;
+        let next = taken.job;
+        let end = line::answer_line(answer, place.offset).put(out, wrote);
+        Advanced {
+            run: Run {
+                job: next,
+                held: Held::none(),
+                place: place.after(size),
+                stopped: refuses(answer),
+            },
+            wrote: end,
+        }
+    }
+
+    // Takes bytes of the chunk while `out` has room for any line, and writes their lines.
+    pub fn feed(self, chunk: &[u8], out: &mut [u8]) -> Fed
+        ensures { λ r. ⌜ Feeding self (now (chunk .entry)) (now (out .entry)) r (now (out .exit)) ⌝ }
+    {
+        if self.stopped {
+            return self.handed(chunk.len(), 0);
+        }
+        let mut run = self;
+        let mut at: usize = 0;
+        let mut wrote: usize = 0;
+        while at < chunk.len() {
+            if out.len() - wrote < 128 {
+                return run.handed(at, wrote);
+            }
+            let held = run.held;
+            let begun = held.with(chunk[at]);
+            let found = begun.read();
+            at += 1;
+            match found {
+                Read::Whole(item, cursor) => {
+                    let size = cursor.at;
+                    let done = run.advance(item, size, out, wrote);
+                    let next = done.run;
+                    run = next;
+                    wrote = done.wrote;
+                    if run.stopped {
+                        return run.handed(chunk.len(), wrote);
+                    }
+                    continue;
+                }
+                Read::Refused(n, _) => {
+                    if n == 12 {
+                        run.held = begun;
+                        continue;
+                    }
+                    let end = line::refusal_line(n, run.place.offset).put(out, wrote);
+                    run.stopped = true;
+                    return run.handed(chunk.len(), end);
+                }
+                Read::End => {
+                    run.held = begun;
+                    continue;
+                }
+            }
+        }
+        run.handed(at, wrote)
+    }
+
+    fn handed(self, used: usize, wrote: usize) -> Fed
+        ensures { λ r. ⌜ (r .run ≡ self) × (r .used ≡ used) × (r .wrote ≡ wrote) ⌝ }
+    {
+        Fed {
+            run: self,
+            used: used,
+            wrote: wrote,
+        }
+    }
+
+    // The end of the file: writes the last line and answers its length; nothing where `out` has no room for any line.
+    pub fn finish(self, out: &mut [u8]) -> usize
+        ensures { λ r. ⌜ Finishing self (now (out .entry)) r (now (out .exit)) ⌝ }
+    {
+        if out.len() < 128 {
+            return 0;
+        }
+        if self.stopped {
+            return 0;
+        }
+        let count = self.held.count;
+        let job = self.job;
+        let phase = job.phase;
+        let place = self.place;
+        last_line(count, phase, place).put(out, 0)
+    }
+}
+
+// A record that is begun is cut off; a field that is gathered is out of place.
+fn last_line(held: usize, phase: Phase, place: Place) -> Line
+    ensures { λ r. ⌜ Says (last held phase (place .offset) (place .records)) r ⌝ }
+{
+    if 17 < held {
+        return ending_line(phase, place);
+    }
+    if 0 < held {
+        return line::refusal_line(12, place.offset);
+    }
+    ending_line(phase, place)
+}
+
+fn ending_line(phase: Phase, place: Place) -> Line
+    ensures { λ r. ⌜ Says (ending-by phase (place .offset) (place .records)) r ⌝ }
+{
+    match phase {
+        Phase::Idle => line::end_line(place.records),
+        Phase::Gathering => line::refusal_line(13, place.offset),
+        Phase::Accepted => line::end_line(place.records),
+    }
+}
