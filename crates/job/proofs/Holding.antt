@@ -58,7 +58,7 @@ never-end rest (here k h) e = go (ltb (length rest) (k .body-length)) (parsed (k
     go true r c f = let z : _≡_ {A = ℕ} 0 1 = cc in omega arith
     go false r c f = let z : _≡_ {A = ℕ} 0 1 = cc in omega arith
 
-pub end-held : (l : List ℕ) → read-at l 0 ≡ End → length l ≤ 17
+pub no-end : (h : List ℕ) (b : ℕ) → read-at (h ++ (b ∷ [])) 0 ≡ End → ⊥
 unfolding read-at
-end-held [] e = omega arith
-end-held (byte ∷ rest) e = absurd (never-end rest (found byte) e)
+no-end [] b e = never-end [] (found b) e
+no-end (byte ∷ rest) b e = never-end (rest ++ (b ∷ [])) (found byte) e

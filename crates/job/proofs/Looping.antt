@@ -23,8 +23,8 @@ use Rattle.job.specs.declared.run.Fed as feds
 use Rattle.job.specs.States.{view, stepped}
 use Rattle.job.specs.Machine.{Progress, running, stopped, Took, advanced, considered, byte-taken, fed, used-in, Says, refusal-text, held-of, progress-by}
 use Rattle.job.specs.Laws.{then-next, then-printed, one-next, one-printed, stopped-next, stopped-printed, stopped-used, byte-used, no-room, none-used}
-use Rattle.job.specs.Runs.{progress, Feeding}
-use Rattle.job.proofs.Holding.{kept, cut-held, end-held}
+use Rattle.job.specs.Runs.{progress, refused-run, Refusing, Feeding}
+use Rattle.job.proofs.Holding.{kept, cut-held, no-end}
 use Rattle.job.proofs.Advance.{said-short}
 
 -- after the first `at` bytes: how far the run is, and what was written
@@ -242,10 +242,6 @@ module _ (run : Run) (byte : ℕ) (begun : Held) (found : reader.Read) (goes : r
   unfolding considered
   cut-taken n at e f = taken-as ∙ rw (e, f) refl
 
-  pub end-taken : found ≡ End → byte-taken worked-forward (progress run) byte ≡ waits run begun
-  unfolding considered
-  end-taken e = taken-as ∙ rw e refl
-
   pub unknown-taken : (n at : ℕ) → found ≡ Refused n at → (n ≡ body-cut-off → ⊥)
       → byte-taken worked-forward (progress run) byte ≡ record { next = stopped; printed = refusal-text n (run .place .offset) }
   unfolding considered
@@ -262,8 +258,8 @@ module _ (run : Run) (byte : ℕ) (begun : Held) (found : reader.Read) (goes : r
   pub cut-waits : (n at : ℕ) → length (begun .bytes) ≡ 18 → begun .count ≤ 18 → found ≡ Refused n at → n ≡ body-cut-off → progress (waiting run begun) ≡ waits run begun .next
   cut-waits n at l h e f = still-held (few-held l h (cut-held (take (begun .count) (begun .bytes)) at (sym read ∙ e ∙ ap (λ (n : ℕ). Refused n at) f)))
 
-  pub end-waits : length (begun .bytes) ≡ 18 → begun .count ≤ 18 → found ≡ End → progress (waiting run begun) ≡ waits run begun .next
-  end-waits l h e = still-held (few-held l h (end-held (take (begun .count) (begun .bytes)) (sym read ∙ e)))
+  pub never-ends : found ≡ End → ⊥
+  never-ends e = no-end (held-of (run .held .count) (run .held .bytes)) byte (ap (λ (l : List ℕ). read-at l 0) (sym held) ∙ sym read ∙ e)
 
 pub handed-back : {run₀ : Run} {chunk out₀ out : List ℕ} {run : Run} {u w : ℕ} {r : feds.Fed} → (r .run ≡ run) × (r .used ≡ u) × (r .wrote ≡ w)
     → Feeding run₀ chunk out₀ (record { run = run; used = u; wrote = w }) out → Feeding run₀ chunk out₀ r out
@@ -287,5 +283,6 @@ module _ {words : List ℕ} {l : Line} (s : Says words l) where
   pub text-written : {out′ : List ℕ} (out : List ℕ) (wrote : ℕ) → out′ ≡ pasted wrote (said l) out → out′ ≡ pasted wrote words out
   text-written out wrote e = rw (s .says) at e
 
-abbrev pub refused-run : Run → Run
-refused-run run = record { job = run .job; held = run .held; place = run .place; stopped = true }
+pub refusing : (n : ℕ) (run : Run) (used : ℕ) (out : List ℕ) (wrote : ℕ) {end : ℕ} {l : Line} {r : feds.Fed} {out′ : List ℕ} → Says (refusal-text n (run .place .offset)) l
+    → end ≡ wrote + length (said l) → out′ ≡ pasted wrote (said l) out → (r .run ≡ refused-run run) × (r .used ≡ used) × (r .wrote ≡ end) → Refusing n run used out wrote r out′
+refusing n run used out wrote s e h r = record { short = text-short s; handed = (r .0, r .1, r .2 ∙ text-counted s wrote e); holds = text-written s out wrote h }

@@ -5,11 +5,11 @@
 --   Runs      what the calls over chunks promise, in those terms
 --   Laws      bytes after bytes, chunks after chunks
 --   Whole     THE WHOLE FILE: for every file, however it is cut, the machine prints exactly the rules' job
---   Session   the same of the calls themselves
+--   Calls     the same of the calls themselves
 pub mod Gathered
 pub mod States
 pub mod Machine
 pub mod Runs
 pub mod Laws
 pub mod Whole
-pub mod Session
+pub mod Calls

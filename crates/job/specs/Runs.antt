@@ -39,6 +39,15 @@ pub record Advancing (t : Took) (out : List ℕ) (wrote : ℕ) (r : Advanced) (o
   pub holds : out′ ≡ pasted wrote (t .printed) out
   pub next : progress (r .run) ≡ t .next
 
+-- a refusal: the run is stopped, and its line stands behind what was written
+abbrev pub refused-run : Run → Run
+refused-run run = record { job = run .job; held = run .held; place = run .place; stopped = true }
+
+pub record Refusing (n : ℕ) (run : Run) (used : ℕ) (out : List ℕ) (wrote : ℕ) (r : Fed) (out′ : List ℕ) : Type 0 where
+  pub short : length (refusal-text n (run .place .offset)) ≤ 128
+  pub handed : (r .run ≡ refused-run run) × (r .used ≡ used) × (r .wrote ≡ wrote + length (refusal-text n (run .place .offset)))
+  pub holds : out′ ≡ pasted wrote (refusal-text n (run .place .offset)) out
+
 -- a chunk: which of its bytes are taken, how far the run is then, how many bytes are written, and what the buffer holds
 pub record Feeding (run : Run) (chunk out : List ℕ) (r : Fed) (out′ : List ℕ) : Type 0 where
   pub used : r .used ≡ used-in worked-forward (length out) (progress run) chunk

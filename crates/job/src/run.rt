@@ -1,6 +1,7 @@
 // A job over a whole file's bytes, in chunks of any size: `feed` takes a chunk and writes the lines that its records print, `finish` the last line.
 // The bytes of a record that a chunk cuts are held until the rest comes. What is written, over all chunks, is the rules' job of the whole file.
 ghost use mathlib.Core.Path.{_≡_};
+ghost use mathlib.Core.Bool.{false};
 ghost use mathlib.Core.List.{_++_, _∷_, []};
 ghost use Prim.Native.Nat.{_+_, _%_, _^_, _≤_};
 ghost use lib.ListN.{length, take};
@@ -9,7 +10,7 @@ ghost use Rattle.records.specs.Reader.{read-at};
 ghost use Rattle.job.specs.States.{view, stepped};
 ghost use Rattle.job.specs.Machine.{Says, running, advanced, settled, held-of};
 ghost use Rattle.rules.specs.JobFile.{no-field};
-ghost use Rattle.job.specs.Runs.{Advancing, Feeding, Finishing, progress, refuses, ending-by, last};
+ghost use Rattle.job.specs.Runs.{Advancing, Refusing, Feeding, Finishing, progress, refuses, ending-by, last};
 use crate::line;
 use crate::state::Answer;
 use crate::state::Job;
@@ -158,6 +159,13 @@ impl Run {
         if self.stopped {
             return self.handed(chunk.len(), 0);
         }
+        self.take_bytes(chunk, out)
+    }
+
+    fn take_bytes(self, chunk: &[u8], out: &mut [u8]) -> Fed
+        requires { ⌜ self .stopped ≡ false ⌝ }
+        ensures { λ r. ⌜ Feeding self (now (chunk .entry)) (now (out .entry)) r (now (out .exit)) ⌝ }
+    {
         let mut run = self;
         let mut at: usize = 0;
         let mut wrote: usize = 0;
@@ -186,17 +194,22 @@ impl Run {
                         run.held = begun;
                         continue;
                     }
-                    let end = line::refusal_line(n, run.place.offset).put(out, wrote);
-                    run.stopped = true;
-                    return run.handed(chunk.len(), end);
+                    return run.refuse(n, chunk.len(), out, wrote);
                 }
-                Read::End => {
-                    run.held = begun;
-                    continue;
-                }
+                Read::End => continue,
             }
         }
         run.handed(at, wrote)
+    }
+
+    // The refusal of the record that is begun, behind what was written.
+    fn refuse(mut self, n: u8, used: usize, out: &mut [u8], wrote: usize) -> Fed
+        requires { ⌜ wrote + 128 ≤ length (now out) ⌝ }
+        ensures { λ r. ⌜ Refusing n self used (now (out .entry)) wrote r (now (out .exit)) ⌝ }
+    {
+        let end = line::refusal_line(n, self.place.offset).put(out, wrote);
+        self.stopped = true;
+        self.handed(used, end)
     }
 
     fn handed(self, used: usize, wrote: usize) -> Fed

@@ -19,23 +19,23 @@ use Rattle.job.specs.Runs.{progress, Feeding, last-text, Finishing}
 use Rattle.job.specs.Whole.{start, whole-file}
 
 -- from one run to another: the bytes that were taken, and the bytes that were written
-pub data Session : Run → List ℕ → List ℕ → Run → Type 0 where
-  none : {r : Run} → Session r [] [] r
-  then : {r s : Run} {bytes written chunk out out′ : List ℕ} (fed : Fed) → Session r bytes written s → Feeding s chunk out fed out′
-      → Session r (bytes ++ take (fed .used) chunk) (written ++ take (fed .wrote) out′) (fed .run)
+pub data Calls : Run → List ℕ → List ℕ → Run → Type 0 where
+  none : {r : Run} → Calls r [] [] r
+  then : {r s : Run} {bytes written chunk out out′ : List ℕ} (fed : Fed) → Calls r bytes written s → Feeding s chunk out fed out′
+      → Calls r (bytes ++ take (fed .used) chunk) (written ++ take (fed .wrote) out′) (fed .run)
 
 -- what stands at the front of a buffer after a text was laid over it
 front : (t out : List ℕ) {n : ℕ} {out′ : List ℕ} → n ≡ length t → out′ ≡ pasted 0 t out → take n out′ ≡ t
 front t out e h = rw (e, h) (take-append-seam t (drop (0 + length t) out))
 
-reached : {r s : Run} {bytes written : List ℕ} → Session r bytes written s → progress s ≡ fed worked-forward (progress r) bytes .next
+reached : {r s : Run} {bytes written : List ℕ} → Calls r bytes written s → progress s ≡ fed worked-forward (progress r) bytes .next
 unfolding fed
 reached none = refl
 reached {r} (then {s = s} {bytes = bytes} {chunk = chunk} d calls f) =
     f .next ∙ ap (λ (p : Progress). fed worked-forward p (take (d .used) chunk) .next) (reached calls)
     ∙ sym (then-next worked-forward (progress r) bytes (take (d .used) chunk))
 
-wrote : {r s : Run} {bytes written : List ℕ} → Session r bytes written s → written ≡ fed worked-forward (progress r) bytes .printed
+wrote : {r s : Run} {bytes written : List ℕ} → Calls r bytes written s → written ≡ fed worked-forward (progress r) bytes .printed
 unfolding fed
 wrote none = refl
 wrote {r} (then {s = s} {bytes = bytes} {written = written} {chunk = chunk} {out = out} d calls f) =
@@ -45,9 +45,9 @@ wrote {r} (then {s = s} {bytes = bytes} {written = written} {chunk = chunk} {out
     ∙ sym (then-printed worked-forward (progress r) bytes (take (d .used) chunk))
 
 -- from a new run on to the end of a file of less than 2^64 bytes, with room for the last line
-pub session : {r s : Run} {bytes written out out′ : List ℕ} {n : ℕ} → progress r ≡ start → Session r bytes written s → Finishing s out n out′
+pub all-calls : {r s : Run} {bytes written out out′ : List ℕ} {n : ℕ} → progress r ≡ start → Calls r bytes written s → Finishing s out n out′
     → 128 ≤ length out → length bytes < 2 ^ 64 → written ++ take n out′ ≡ job-by worked-forward bytes
-session {r} {s} {bytes} {written} {out} {out′} {n} new calls f room h =
+all-calls {r} {s} {bytes} {written} {out} {out′} {n} new calls f room h =
     let t : last-text (length out) (progress s) ≡ finished (progress s) = ap (λ (b : Bool). chosen b [] (finished (progress s))) (le-ltb (length out) 128 room) in
     ap (λ (l : List ℕ). written ++ l) (front (last-text (length out) (progress s)) out (f .wrote-is) (f .holds) ∙ t ∙ ap finished (reached calls))
     ∙ ap (λ (l : List ℕ). l ++ finished (fed worked-forward (progress r) bytes .next)) (wrote calls)
