@@ -1,5 +1,5 @@
 // Times the ring calls beside GEOS on the same rings and points, in one run: the turning number and the nozzle's position beside GEOS's own point in ring
-// (PointLocation::locateInRing, in doubles), and the crossing test beside GEOSisValid. Answers are compared before anything is timed.
+// (PointLocation::locateInRing, in doubles) and its prepared geometry, and the crossing test beside GEOSisValid. Answers are compared before anything is timed.
 #include <geos_c.h>
 
 #include <cmath>
@@ -121,6 +121,11 @@ static void points_row(const Case &ring) {
         uint8_t here = bench_position(numbers, length, at.x[k], at.y[k]);
         must(here == (there == Location::INTERIOR ? 0 : there == Location::BOUNDARY ? 1 : 2), "a point's place differs from GEOS");
     }
+    // the same points against a geometry that GEOS has indexed once
+    GEOSGeometry *polygon = polygon_of(ring);
+    const GEOSPreparedGeometry *prepared = GEOSPrepare(polygon);
+    std::vector<GEOSGeometry *> places;
+    for (int k = 0; k < count; k++) places.push_back(GEOSGeom_createPointFromXY((double)at.y[k], (double)at.x[k]));
     long calls = std::max(count, (int)(1000000 / ring.corners()));
     double edges = (double)ring.corners();
     auto times = together(
@@ -128,9 +133,13 @@ static void points_row(const Case &ring) {
         work(calls, [&](long k) { return (int64_t)bench_position(numbers, length, at.x[k % count], at.y[k % count]); }),
         work(calls, [&](long k) {
             return (int64_t)PointLocation::locateInRing(Coordinate((double)at.y[k % count], (double)at.x[k % count]), sequence);
-        }));
-    double turning = times[0] / edges, position = times[1] / edges, geos = times[2] / edges;
-    printf("%-6s %5zu   %8.2f %8.2f %8.2f   %6.2f %6.2f\n", ring.name, ring.corners(), turning, position, geos, turning / geos, position / geos);
+        }),
+        work(calls, [&](long k) { return (int64_t)GEOSPreparedContains(prepared, places[k % count]); }));
+    double turning = times[0] / edges, position = times[1] / edges, geos = times[2] / edges, indexed = times[3] / edges;
+    printf("%-6s %5zu   %8.2f %8.2f %8.2f %8.2f   %6.2f %6.2f %6.2f\n", ring.name, ring.corners(), turning, position, geos, indexed, turning / geos, position / geos, position / indexed);
+    for (GEOSGeometry *place : places) GEOSGeom_destroy(place);
+    GEOSPreparedGeom_destroy(prepared);
+    GEOSGeom_destroy(polygon);
 }
 
 static void crossing_row(const Case &ring) {
@@ -156,7 +165,7 @@ int main() {
         cases.push_back(comb(corners));
     }
     printf("\nPoint in ring, nanoseconds for each edge (random points of the ring's box; every call checks the ring's numbers first)\n");
-    printf("ring   edges    turning position     GEOS   turning/GEOS position/GEOS\n");
+    printf("ring   edges    turning position     GEOS prepared   turning/GEOS position/GEOS position/prepared\n");
     for (const Case &ring : cases) points_row(ring);
     printf("\nCrossing test of a clean ring (nanoseconds for each pair of edges; microseconds for the ring beside GEOSisValid)\n");
     printf("ring   edges    ns/pair    ring us    GEOS us   ring/GEOS\n");
