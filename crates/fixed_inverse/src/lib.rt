@@ -188,7 +188,8 @@ pub fn latitude60(krasovsky: bool, f: u64) -> u64
     }
 }
 
-// n / d to the nearest whole number, ties to even.
+// n / d to the nearest whole number, ties to even. One test and no more, because the compiler can then do without a jump, which for a rounding would go wrong every
+// other time.
 pub fn nearest_even(n: u64, d: u64) -> u64
     requires { ⌜ (0 < d) × (d ≤ 2 ^ 62) ⌝ }
     ensures { λ r. ⌜ r ≡ nearest-even n d ⌝ }
@@ -196,13 +197,10 @@ pub fn nearest_even(n: u64, d: u64) -> u64
 {
     let q = n / d;
     let r = n % d;
-    if 2 * r < d {
-        return q;
-    }
-    if d < 2 * r {
+    if d - r < r + q % 2 {
         return q + 1;
     }
-    q + q % 2
+    q
 }
 
 // An angle in whole ticks; the constant is 648,000,000,000 / pi * 2^22.

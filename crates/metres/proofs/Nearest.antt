@@ -3,6 +3,7 @@ use mathlib.Core.Path.{_≡_, sym, ap, _∙_, subst}
 use Prim.Native.Nat.{ℕ, zero, suc, _+_, _-_, _*_, _%_, _≤_, _<_}
 use native.Mathlib.Nat.{le-trans, suc-mul, mul-sub, mul-comm, le-of-mul-le-mul-right, le-add-right}
 use native.Mathlib.Omega.{arith}
+use native.Mathlib.Decide.{decLe}
 use lib.Arith.{digits-div, digits-mod}
 use lib.Ieee.Nearest.{closest}
 use Rattle.double.proofs.Rounding.{closest-up, closest-tie, closest-down}
@@ -22,7 +23,7 @@ module _ (n r d : ℕ) (l : r < d) where
 split : (N n r d : ℕ) → N + r ≡ suc n * d → 0 < r → r < d → N ≡ n * d + (d - r)
 split N n r d e p l = let s = suc-mul n d in omega arith
 
-pub under-half : (N n r d : ℕ) → N + r ≡ n * d → r < d - r → closest N d ≡ n
+under-half : (N n r d : ℕ) → N + r ≡ n * d → r < d - r → closest N d ≡ n
 under-half N n zero d e l = ap (λ (x : ℕ). closest x d) (whole N (n * d) e) ∙ down-from n 0 d (omega arith) (omega arith)
   where
     whole : (N x : ℕ) → N + 0 ≡ x → N ≡ x + 0
@@ -30,14 +31,14 @@ under-half N n zero d e l = ap (λ (x : ℕ). closest x d) (whole N (n * d) e) �
 under-half N zero (suc r) d e l = absurd (let z = native.Mathlib.Nat.zero-mul d in omega arith)
 under-half N (suc n) (suc r) d e l = ap (λ (x : ℕ). closest x d) (split N n (suc r) d e (omega arith) (omega arith)) ∙ up-from n (d - suc r) d (omega arith) (omega arith)
 
-pub over-half : (N n r d : ℕ) → N + r ≡ n * d → r < d → d - r < r → closest N d ≡ n - 1
+over-half : (N n r d : ℕ) → N + r ≡ n * d → r < d → d - r < r → closest N d ≡ n - 1
 over-half N zero r d e l h = absurd (let z = native.Mathlib.Nat.zero-mul d in omega arith)
 over-half N (suc n) r d e l h = ap (λ (x : ℕ). closest x d) (split N n r d e (omega arith) l) ∙ down-from n (d - r) d (omega arith) (omega arith) ∙ less n
   where
     less : (n : ℕ) → n ≡ suc n - 1
     less n = omega arith
 
-pub half : (N n r d : ℕ) → N + r ≡ n * d → r < d → d - r ≡ r → closest N d ≡ n - n % 2
+half : (N n r d : ℕ) → N + r ≡ n * d → r < d → d - r ≡ r → closest N d ≡ n - n % 2
 half N zero r d e l h = absurd (let z = native.Mathlib.Nat.zero-mul d in omega arith)
 half N (suc n) r d e l h = ap (λ (x : ℕ). closest x d) (split N n r d e (omega arith) l) ∙ tie-from n (d - r) d (omega arith) (omega arith) ∙ even n
   where
@@ -45,9 +46,30 @@ half N (suc n) r d e l h = ap (λ (x : ℕ). closest x d) (split N n r d e (omeg
     even n = omega arith
 
 -- there is a number above as long as something is missing
-pub some-above : (N n r d : ℕ) → N + r ≡ n * d → r < d → d - r < r → 1 ≤ n
-some-above N zero r d e l h = absurd (let z = native.Mathlib.Nat.zero-mul d in omega arith)
-some-above N (suc n) r d e l h = omega arith
+pub some-above : (N n r d : ℕ) → N + r ≡ n * d → 0 < r → 1 ≤ n
+some-above N zero r d e h = absurd (let z = native.Mathlib.Nat.zero-mul d in omega arith)
+some-above N (suc n) r d e h = omega arith
+
+-- ---- one test for both: more than half of d is missing, or half and n is odd
+pub one-less : (N n r d : ℕ) → N + r ≡ n * d → r < d → d - r < r + n % 2 → closest N d ≡ n - 1
+one-less N n r d e l h = go (decLe (suc (d - r)) r)
+  where
+    odd : (n : ℕ) → d - r < r + n % 2 → ¬ (suc (d - r) ≤ r) → (d - r ≡ r) × (n - n % 2 ≡ n - 1)
+    odd n h k = (omega arith, omega arith)
+
+    go : Dec (suc (d - r) ≤ r) → closest N d ≡ n - 1
+    go (yes k) = over-half N n r d e l k
+    go (no k) = half N n r d e l (odd n h k .0) ∙ odd n h k .1
+
+pub not-less : (N n r d : ℕ) → N + r ≡ n * d → r < d → r + n % 2 ≤ d - r → closest N d ≡ n
+not-less N n r d e l h = go (decLe (suc r) (d - r))
+  where
+    even : (n : ℕ) → r + n % 2 ≤ d - r → ¬ (suc r ≤ d - r) → (d - r ≡ r) × (n - n % 2 ≡ n)
+    even n h k = (omega arith, omega arith)
+
+    go : Dec (suc r ≤ d - r) → closest N d ≡ n
+    go (yes k) = under-half N n r d e k
+    go (no k) = half N n r d e l (even n h k .0) ∙ even n h k .1
 
 -- ---- above · d less q · d + r
 pub quotient-le : (a q r d : ℕ) → 0 < d → q * d + r ≤ a * d → q ≤ a

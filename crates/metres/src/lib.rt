@@ -64,19 +64,17 @@ pub fn scaled(x: f64, k: u64) -> u64
     shifted(bits % 4503599627370496 + 4503599627370496, field - 1 + k)
 }
 
-// above - q - r / d to the nearest whole number, at a tie the even one.
+// above - q - r / d to the nearest whole number, at a tie the even one. One test and no more, because the compiler can then do without a jump, which for a rounding
+// would go wrong every other time.
 fn rounded(above: u64, q: u64, r: u64, d: u64) -> u64
     requires { ⌜ (r < d) × (q * d + r ≤ above * d) × (d < 2 ^ 63) ⌝ }
     ensures { λ n. ⌜ n ≡ closest (above * d - (q * d + r)) d ⌝ }
 {
     let n = above - q;
-    if r < d - r {
-        return n;
-    }
-    if r > d - r {
+    if d - r < r + n % 2 {
         return n - 1;
     }
-    n - n % 2
+    n
 }
 
 // x whole multiples of 2^-20 m, times m0 = 1 - short / (1000 * per), in whole millimetres: the nearest, at a tie the even one.
