@@ -5,7 +5,6 @@ pub mod Bounds
 pub mod Products
 pub mod Turned
 pub mod Series
-pub mod Angles
 pub mod Nested
 pub mod Quotients
 pub mod Roots

@@ -27,13 +27,6 @@ quot-rest a b = (a - quot-first a b * (b / P30)) * P30 - quot-first a b * (b % P
 unfoldable pub quot60 : ℕ → ℕ → ℕ
 quot60 a b = quot-first a b * P30 + quot-rest a b / (b / P30 + 1)
 
--- n ticks in radians: n·2^22 times π / 648,000,000,000 · 2^38, to the nearest unit
-abbrev pub RadC : ℕ
-RadC = 1536435884643401761
-
-unfoldable pub rad60 : ℕ → ℕ
-rad60 n = mul60 (n * 2 ^ 22) RadC
-
 -- c₀ - q·(c₁ - q·(c₂ - ..)) and c₀ + q·(c₁ + q·(c₂ + ..)) of a table c
 unfoldable pub alt60 : ℕ → List ℕ → ℕ
 alt60 q [] = 0

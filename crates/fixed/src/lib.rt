@@ -2,7 +2,7 @@
 ghost use mathlib.Core.Path.{_≡_};
 ghost use Prim.Native.Nat.{ℕ, _+_, _*_, _/_, _^_, _<_, _≤_};
 ghost use lib.Dec.{T};
-ghost use Rattle.fixed.specs.Worked.{S60, mul60, quot60, rad60, alt60, ser60, odd-alt60, odd-ser60, even-alt60, even-ser60, tilt60, tilt-south};
+ghost use Rattle.fixed.specs.Worked.{S60, mul60, quot60, alt60, ser60, odd-alt60, odd-ser60, even-alt60, even-ser60, tilt60, tilt-south};
 ghost use Rattle.fixed.specs.Relations.{Mul60, Quot60, falls};
 
 // a·b of two numbers up to 2.
@@ -60,15 +60,6 @@ pub fn ser60(tab: &[u64], q: u64) -> u64
         s = tab[i] + mul60(q, s);
     }
     s
-}
-
-// n ticks in radians, up to 60 degrees.
-pub fn rad60(n: u64) -> u64
-    requires { ⌜ n ≤ 216000000000 ⌝ }
-    ensures { λ r. ⌜ r ≡ rad60 n ⌝ }
-    ensures size { λ r. ⌜ r ≤ 5589522 * n ⌝ }
-{
-    mul60(n * 0x40_0000, 1536435884643401761)
 }
 
 // x * (tab[0] - x² * (tab[1] - ..)), of a number x up to 1: a sine or an arc tangent, by its table.

@@ -30,7 +30,7 @@ east30 radius v = mul60 (odd-ser60 v artanh-table) radius
 module _ {sd : ℕ} (kc d2 : ℕ) (s : Bool) (n d z : ℤ)
     (fn : Fixed (2 * kc) n (3400 * unit) (107 * S60 / 100) (136 * S60 / 100))
     (fd : Fixed (2 * d2) d (9000 * unit) (178 * S60 / 100) (220 * S60 / 100))
-    (fs : Fixed sd (turned s z) (3000 * unit) 0 (961 * S60 / 10000)) where
+    (fs : Fixed sd (turned s z) (8 * unit) 0 (961 * S60 / 10000)) where
   d-large : unit ≤ natAbs d
   unfolding numbers
   d-large = le-trans (lit≤ tt) (near-least (fd .near) (fd .low))

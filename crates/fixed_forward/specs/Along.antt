@@ -53,7 +53,7 @@ module _ {cd : ℕ} (n2 d2 kc : ℕ) (n d g z : ℤ)
     (fn : Fixed (2 * n2) n (9000 * unit) (130 * S60 / 100) (176 * S60 / 100))
     (fd : Fixed (2 * d2) d (9000 * unit) (178 * S60 / 100) (220 * S60 / 100))
     (fg : Fixed (2 * kc) g (3400 * unit) (107 * S60 / 100) (136 * S60 / 100))
-    (fz : Fixed cd z (30 * unit) (99 * S60 / 100) S60) where
+    (fz : Fixed cd z (18 * unit) (99 * S60 / 100) S60) where
   pub middle-near : Fixed (2 * mul60 kc cd) (product g z) (3500 * unit) (105 * S60 / 100) (136 * S60 / 100)
   unfolding numbers
   middle-near = fix-le (3500 * unit) (105 * S60 / 100) (136 * S60 / 100) (fix-mul-double kc (product g z) (product-rest g z) fg fz tt tt) tt tt tt

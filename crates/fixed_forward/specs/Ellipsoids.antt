@@ -1,22 +1,17 @@
--- The ellipsoids' constants as the code has them: e at scale 2^60, lengths in units of 2^-30 m. Assumes nothing.
+-- The ellipsoids' constants as the code has them, in units of 2^-30 m. Assumes nothing.
 use mathlib.Core.Bool.{Bool, true, false}
 use Prim.Native.Nat.{ℕ, _*_, _/_, _^_, _≤_}
 use lib.IntN.{pos, _-ℤ_}
 use lib.Dec.{lit≤}
 use Rattle.rules.specs.Systems.{_/10^_, Ellipsoid, GRS-80, Krasovsky, constants}
 use Rattle.rules.specs.Scaled.{unit, product, radians, at-52}
-use Rattle.fixed.specs.Worked.{S60}
-use Rattle.fixed.specs.Nearness.{Near30, Fixed}
-use Rattle.fixed.specs.Laws.Products.{near-le, near-const, fix-const, fix-le, off-at}
+use Rattle.fixed.specs.Nearness.{Near30}
+use Rattle.fixed.specs.Laws.Products.{near-le, near-const, off-at}
 
 -- the ellipsoid of a flag, which is set for Krasovsky
 abbrev pub which : Bool → Ellipsoid
 which true = Krasovsky
 which false = GRS-80
-
-unfoldable pub e60 : Ellipsoid → ℕ
-e60 GRS-80 = 94331104842780033
-e60 Krasovsky = 94324352151666884
 
 -- R0, and R0 times 52° less 5,760,000 m
 unfoldable pub radius30 : Ellipsoid → ℕ
@@ -26,11 +21,6 @@ radius30 Krasovsky = 6837113874861261
 unfoldable pub centre30 : Ellipsoid → ℕ
 centre30 GRS-80 = 20308250824945
 centre30 Krasovsky = 20414813166061
-
-pub e-near : (E : Ellipsoid) → Fixed (e60 E) (constants E .e) unit 0 (82 * S60 / 1000)
-unfolding e60 constants off-at
-e-near GRS-80 = fix-le unit 0 (82 * S60 / 1000) (fix-const (e60 GRS-80) (constants GRS-80 .e)) tt tt tt
-e-near Krasovsky = fix-le unit 0 (82 * S60 / 1000) (fix-const (e60 Krasovsky) (constants Krasovsky .e)) tt tt tt
 
 pub radius-near : (E : Ellipsoid) → Near30 (radius30 E) (constants E .R0) unit
 unfolding radius30 constants off-at

@@ -12,25 +12,23 @@ use Rattle.fixed.specs.Worked.{S60, mul60, tilt60, tilt-south}
 use Rattle.fixed.specs.Nearness.{NearAt, Near30, Fixed, turned}
 use Rattle.fixed.specs.Laws.Tangents.{slant}
 use Rattle.fixed.specs.Laws.Turned.{below-zero, turned-size, near-turn}
-use Rattle.fixed_forward.specs.Latitude.{Latitude, latitude-sine, latitude-cosine, longitude-sine, longitude-cosine, latitude-sine-near, latitude-cosine-near, longitude-sine-near, longitude-cosine-near}
-use Rattle.fixed_forward.specs.Ellipsoids.{e60, radius30, centre30}
-use Rattle.fixed_forward.specs.Sphere.{K60, K-near, numerator60, denominator60, numerator, denominator, numerator-near, denominator-near, doubled-near}
+use Rattle.fixed_bands.specs.Worked.{K60, latitude-sine, latitude-cosine, longitude-sine, longitude-cosine}
+use Rattle.fixed_bands.specs.Bands.{K-near, Latitude, latitude-sine-near, latitude-cosine-near, longitude-sine-near, longitude-cosine-near}
+use Rattle.fixed_forward.specs.Ellipsoids.{radius30, centre30}
+use Rattle.fixed_forward.specs.Sphere.{numerator60, denominator60, numerator, denominator, numerator-near, denominator-near, doubled-near}
 use Rattle.fixed_forward.specs.Across.{across60, across-near, east30, east-near}
 use Rattle.fixed_forward.specs.Along.{middle-near, tangent-high, tangent-law, north30, north-near}
-use Rattle.fixed_forward.specs.Bands.{tilt-near}
+use Rattle.fixed_forward.specs.Tilt.{tilt-near}
 
 -- ---- the worked numbers: n ticks of latitude, d ticks of longitude from the meridian
-unfoldable pub K-of60 : Ellipsoid → ℕ → ℕ
-K-of60 E n = K60 (e60 E) (latitude-sine n)
-
 unfoldable pub numerator-of : Ellipsoid → ℕ → ℕ
-numerator-of E n = numerator60 (K-of60 E n) (latitude-sine n)
+numerator-of E n = numerator60 (K60 E n) (latitude-sine n)
 
 unfoldable pub denominator-of : Ellipsoid → ℕ → ℕ
-denominator-of E n = denominator60 (K-of60 E n) (latitude-sine n)
+denominator-of E n = denominator60 (K60 E n) (latitude-sine n)
 
 unfoldable pub doubled-of : Ellipsoid → ℕ → ℕ
-doubled-of E n = mul60 (K-of60 E n) (latitude-cosine n)
+doubled-of E n = mul60 (K60 E n) (latitude-cosine n)
 
 unfoldable pub middle-of : Ellipsoid → ℕ → ℕ → ℕ
 middle-of E n d = mul60 (doubled-of E n) (longitude-cosine d)
@@ -69,9 +67,8 @@ module _ (E : Ellipsoid) (n : ℕ) (h : Latitude n) where
   abbrev K : ℤ
   K = K-of (constants E) t
 
-  pub K-of-near : Fixed (K-of60 E n) K (2200 * unit) (994 * S60 / 1000) S60
-  unfolding K-of60
-  K-of-near = K-near E t (latitude-sine-near n h)
+  pub K-of-near : Fixed (K60 E n) K (9 * unit) (994 * S60 / 1000) S60
+  K-of-near = K-near n h E
 
   pub numerator-of-near : Fixed (2 * numerator-of E n) (numerator K t) (9000 * unit) (130 * S60 / 100) (176 * S60 / 100)
   unfolding numerator-of

@@ -21,7 +21,7 @@ use Rattle.fixed.specs.Laws.Words.{mul60-is}
 use Rattle.fixed.specs.Laws.Products.{fix-le}
 use Rattle.fixed.specs.Laws.Functions.{fix-arctan, fix-artanh}
 use Rattle.fixed.specs.Laws.Numbers.{numbers}
-use Rattle.fixed_forward.specs.Latitude.{Latitude}
+use Rattle.fixed_bands.specs.Bands.{Latitude}
 use Rattle.fixed_forward.specs.Ellipsoids.{radius30, centre30, radius-high}
 use Rattle.fixed_forward.specs.Across.{east30}
 use Rattle.fixed_forward.specs.Along.{north30}

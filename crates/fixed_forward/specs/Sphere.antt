@@ -1,43 +1,14 @@
--- The sphere's latitude f: K, half of the numerator and of the denominator of sin f, and K·cos B, which halves that of cos f. Assumes nothing.
-use mathlib.Core.Bool.{false}
+-- The sphere's latitude f: half of the numerator and of the denominator of sin f, and K·cos B, which halves that of cos f. Assumes nothing.
 use Prim.Native.Nat.{ℕ, _+_, _*_, _-_, _/_, _≤_}
 use native.Mathlib.Omega.{arith}
-use lib.IntN.{ℤ, pos, negℤ, _+ℤ_, _-ℤ_, _*ℤ_}
-use Rattle.rules.specs.Systems.{Ellipsoid, constants}
-use Rattle.rules.specs.Scaled.{unit, one, product, artanh, exponential, exponential-coefficients}
-use Rattle.rules.specs.Projection.{K-of, lifted}
-use Rattle.fixed.specs.Worked.{S60, mul60, alt60, odd-ser60}
-use Rattle.fixed.specs.Nearness.{Fixed, turned}
-use Rattle.fixed.specs.Tables.{artanh-table, exponential-table}
+use lib.IntN.{ℤ, pos, _+ℤ_, _-ℤ_, _*ℤ_}
+use Rattle.rules.specs.Scaled.{unit, one, product}
+use Rattle.rules.specs.Projection.{lifted}
+use Rattle.fixed.specs.Worked.{S60, mul60}
+use Rattle.fixed.specs.Nearness.{Fixed}
 use Rattle.fixed.specs.Laws.Products.{fix-const, fix-add, fix-minus, fix-mul, fix-le, product-rest, self, near-self}
-use Rattle.fixed.specs.Laws.Series.{fix-alt-opposite}
 use Rattle.fixed.specs.Laws.Quotients.{fix-twice, fix-halved, fix-mul-double}
-use Rattle.fixed.specs.Laws.Functions.{fix-artanh}
 use Rattle.fixed.specs.Laws.Numbers.{numbers}
-use Rattle.fixed_forward.specs.Ellipsoids.{e60, e-near}
-
--- ---- K, the exponential of -e·artanh(e·t)
-unfoldable pub K60 : ℕ → ℕ → ℕ
-K60 e t = alt60 (mul60 e (odd-ser60 (mul60 e t) artanh-table)) exponential-table
-
--- the definition's K at any e
-unfoldable pub K-at : ℤ → ℤ → ℤ
-K-at e t = exponential (negℤ (product e (artanh (product e t))))
-
-pub K-at-near : {e t : ℕ} (x y : ℤ)
-    → Fixed e x unit 0 (82 * S60 / 1000)
-    → Fixed t y (30 * unit) (70 * S60 / 100) (87 * S60 / 100)
-    → Fixed (K60 e t) (K-at x y) (2200 * unit) (994 * S60 / 1000) S60
-unfolding K60 K-at exponential numbers turned
-K-at-near x y fe ft =
-    let fy = fix-mul fe ft tt tt in
-    fix-le (2200 * unit) (994 * S60 / 1000) S60
-    (fix-alt-opposite (product x (artanh (product x y))) exponential-table exponential-coefficients tt
-    (fix-mul fe (fix-artanh artanh-table false (product x y) tt fy tt tt tt) tt tt) tt) tt tt tt
-
-pub K-near : {t : ℕ} (E : Ellipsoid) (y : ℤ) → Fixed t y (30 * unit) (70 * S60 / 100) (87 * S60 / 100) → Fixed (K60 (e60 E) t) (K-of (constants E) y) (2200 * unit) (994 * S60 / 1000) S60
-unfolding K-of K-at
-K-near E y ft = K-at-near (constants E .e) y (e-near E) ft
 
 -- ---- K²(1+t), and half of K²(1+t) - (1-t) and of K²(1+t) + (1-t)
 unfoldable pub lifted60 : ℕ → ℕ → ℕ
@@ -56,14 +27,14 @@ numerator K t = lifted K t -ℤ (one -ℤ t)
 unfoldable pub denominator : ℤ → ℤ → ℤ
 denominator K t = lifted K t +ℤ (one -ℤ t)
 
-module _ {k t : ℕ} {K y : ℤ} (fk : Fixed k K (2200 * unit) (994 * S60 / 1000) S60) (ft : Fixed t y (30 * unit) (70 * S60 / 100) (87 * S60 / 100)) where
+module _ {k t : ℕ} {K y : ℤ} (fk : Fixed k K (9 * unit) (994 * S60 / 1000) S60) (ft : Fixed t y (16 * unit) (70 * S60 / 100) (87 * S60 / 100)) where
   lifted-near : Fixed (lifted60 k t) (lifted K y) (8300 * unit) (166 * S60 / 100) (188 * S60 / 100)
   unfolding lifted60 lifted numbers
   lifted-near = fix-le (8300 * unit) (166 * S60 / 100) (188 * S60 / 100) (fix-mul (fix-mul fk fk tt tt) (fix-add (fix-const S60 one) ft) tt tt) tt tt tt
 
-  rest-near : Fixed (S60 - t) (one -ℤ y) (30 * unit) (13 * S60 / 100) (31 * S60 / 100)
+  rest-near : Fixed (S60 - t) (one -ℤ y) (16 * unit) (13 * S60 / 100) (31 * S60 / 100)
   unfolding numbers
-  rest-near = fix-le (30 * unit) (13 * S60 / 100) (31 * S60 / 100) (fix-minus (fix-const S60 one) ft tt) tt tt tt
+  rest-near = fix-le (16 * unit) (13 * S60 / 100) (31 * S60 / 100) (fix-minus (fix-const S60 one) ft tt) tt tt tt
 
   pub numerator-near : Fixed (2 * numerator60 k t) (numerator K y) (9000 * unit) (130 * S60 / 100) (176 * S60 / 100)
   unfolding numerator60 numerator
@@ -75,8 +46,8 @@ module _ {k t : ℕ} {K y : ℤ} (fk : Fixed k K (2200 * unit) (994 * S60 / 1000
 
 -- ---- K·cos B, and the definition's 2K·cos B
 pub doubled-near : {k c : ℕ} {K y : ℤ}
-    → Fixed k K (2200 * unit) (994 * S60 / 1000) S60
-    → Fixed c y (150 * unit) (54 * S60 / 100) (68 * S60 / 100)
+    → Fixed k K (9 * unit) (994 * S60 / 1000) S60
+    → Fixed c y (14 * unit) (54 * S60 / 100) (68 * S60 / 100)
     → Fixed (2 * mul60 k c) (product (pos 2 *ℤ K) y) (3400 * unit) (107 * S60 / 100) (136 * S60 / 100)
 unfolding numbers
 doubled-near {k} {K = K} {y = y} fk fc =
@@ -92,11 +63,11 @@ pub record HalvesSizes (n2 d2 : ℕ) : Type 0 where
 pub halves-sizes : (k t : ℕ) → (994 * S60 / 1000 ≤ k) × (k ≤ S60) × (70 * S60 / 100 ≤ t) × (t ≤ 87 * S60 / 100) → HalvesSizes (numerator60 k t) (denominator60 k t)
 halves-sizes k t h = go (numerator60 k t) (denominator60 k t) (fn .low) (fn .high) (fd .low) (fd .high)
   where
-    fk : Fixed k (self k) (2200 * unit) (994 * S60 / 1000) S60
-    fk = record { near = near-self k (2200 * unit) tt; low = h .0; high = h .1 }
+    fk : Fixed k (self k) (9 * unit) (994 * S60 / 1000) S60
+    fk = record { near = near-self k (9 * unit) tt; low = h .0; high = h .1 }
 
-    ft : Fixed t (self t) (30 * unit) (70 * S60 / 100) (87 * S60 / 100)
-    ft = record { near = near-self t (30 * unit) tt; low = h .2; high = h .3 }
+    ft : Fixed t (self t) (16 * unit) (70 * S60 / 100) (87 * S60 / 100)
+    ft = record { near = near-self t (16 * unit) tt; low = h .2; high = h .3 }
 
     fn : Fixed (2 * numerator60 k t) (numerator (self k) (self t)) (9000 * unit) (130 * S60 / 100) (176 * S60 / 100)
     fn = numerator-near fk ft
@@ -112,4 +83,4 @@ pub lifted-low : (k t : ℕ) → (994 * S60 / 1000 ≤ k) × (k ≤ S60) × (70 
 lifted-low k t h = (f .low, f .high)
   where
     f : Fixed (lifted60 k t) (lifted (self k) (self t)) (8300 * unit) (166 * S60 / 100) (188 * S60 / 100)
-    f = lifted-near (record { near = near-self k (2200 * unit) tt; low = h .0; high = h .1 }) (record { near = near-self t (30 * unit) tt; low = h .2; high = h .3 })
+    f = lifted-near (record { near = near-self k (9 * unit) tt; low = h .0; high = h .1 }) (record { near = near-self t (16 * unit) tt; low = h .2; high = h .3 })

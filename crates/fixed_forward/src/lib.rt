@@ -1,62 +1,20 @@
 // The forward steps up to Mercator's pair, in fixed point at scale 2^60. Each function answers the worked number of specs/, and says how large it is.
-use fixed::alt60;
-use fixed::even_alt60;
 use fixed::mul60;
 use fixed::odd_alt60;
 use fixed::odd_ser60;
 use fixed::quot60;
-use fixed::rad60;
 use fixed::tilt60;
 ghost use mathlib.Core.Path.{_≡_};
 ghost use Prim.Native.Nat.{ℕ, _+_, _*_, _/_, _≤_};
 ghost use lib.IntN.{ℤ, pos, _+ℤ_};
 ghost use Rattle.fixed.specs.Worked.{S60, mul60, tilt60, tilt-south};
 ghost use Rattle.fixed.specs.Nearness.{turned};
-ghost use Rattle.fixed_forward.specs.Latitude.{latitude-sine, latitude-cosine, longitude-sine, longitude-cosine, LatitudeSizes, LongitudeSizes};
-ghost use Rattle.fixed_forward.specs.Sphere.{K60, numerator60, denominator60, HalvesSizes};
+ghost use Rattle.fixed_bands.specs.Worked.{K60};
+ghost use Rattle.fixed_forward.specs.Sphere.{numerator60, denominator60, HalvesSizes};
 ghost use Rattle.fixed_forward.specs.Across.{across60, east30};
 ghost use Rattle.fixed_forward.specs.Along.{north30};
-ghost use Rattle.fixed_forward.specs.Ellipsoids.{which, e60, radius30, centre30};
+ghost use Rattle.fixed_forward.specs.Ellipsoids.{which, radius30, centre30};
 ghost use Rattle.fixed_forward.specs.Points.{IsSphere, SphereSizes, IsMercator};
-
-const SINE: [u64; 9] = [
-    1152921504606846976,
-    192153584101141163,
-    9607679205057058,
-    228754266787073,
-    3177142594265,
-    28883114493,
-    185148170,
-    881658,
-    3241,
-];
-
-const COSINE: [u64; 9] = [
-    1152921504606846976,
-    576460752303423488,
-    48038396025285291,
-    1601279867509510,
-    28594283348384,
-    317714259426,
-    2406926208,
-    13224869,
-    55104,
-];
-
-const SMALL_SINE: [u64; 4] = [
-    1152921504606846976,
-    192153584101141163,
-    9607679205057058,
-    228754266787073,
-];
-
-const SMALL_COSINE: [u64; 5] = [
-    1152921504606846976,
-    576460752303423488,
-    48038396025285291,
-    1601279867509510,
-    28594283348384,
-];
 
 const ARTANH: [u64; 5] = [
     1152921504606846976,
@@ -64,15 +22,6 @@ const ARTANH: [u64; 5] = [
     230584300921369395,
     164703072086692425,
     128102389400760775,
-];
-
-const EXPONENTIAL: [u64; 6] = [
-    1152921504606846976,
-    1152921504606846976,
-    576460752303423488,
-    192153584101141163,
-    48038396025285291,
-    9607679205057058,
 ];
 
 const ARCTAN: [u64; 6] = [
@@ -84,45 +33,16 @@ const ARCTAN: [u64; 6] = [
     104811045873349725,
 ];
 
-pub struct SineCosine {
-    pub sine: u64,
-    pub cosine: u64,
-}
-
-// The sine and cosine of a latitude of n ticks, from 48 to 56 degrees.
-pub fn latitude60(n: u64) -> SineCosine
+// K of a latitude of n ticks.
+pub fn k60(krasovsky: bool, n: u64) -> u64
     requires { ⌜ (172800000000 ≤ n) × (n ≤ 201600000000) ⌝ }
-    ensures { λ r. ⌜ (r .sine ≡ latitude-sine n) × (r .cosine ≡ latitude-cosine n) ⌝ }
-    ensures size { λ r. ⌜ LatitudeSizes (r .sine) (r .cosine) ⌝ }
-{
-    let b = rad60(n);
-    let sine = odd_alt60(&SINE, b);
-    let cosine = even_alt60(&COSINE, b);
-    SineCosine { sine, cosine }
-}
-
-// The sine and cosine of a difference of longitude of d ticks, up to 5 degrees 30 minutes.
-pub fn longitude60(d: u64) -> SineCosine
-    requires { ⌜ d ≤ 19800000000 ⌝ }
-    ensures { λ r. ⌜ (r .sine ≡ longitude-sine d) × (r .cosine ≡ longitude-cosine d) ⌝ }
-    ensures size { λ r. ⌜ LongitudeSizes (r .sine) (r .cosine) ⌝ }
-{
-    let a = rad60(d);
-    let sine = odd_alt60(&SMALL_SINE, a);
-    let cosine = even_alt60(&SMALL_COSINE, a);
-    SineCosine { sine, cosine }
-}
-
-// K of an ellipsoid's e and the sine of the latitude.
-pub fn k60(e: u64, t: u64) -> u64
-    requires { ⌜ (e ≤ 82 * S60 / 1000) × (70 * S60 / 100 ≤ t) × (t ≤ 87 * S60 / 100) ⌝ }
-    ensures { λ r. ⌜ r ≡ K60 e t ⌝ }
+    ensures { λ r. ⌜ r ≡ K60 (which krasovsky) n ⌝ }
     ensures size { λ r. ⌜ (994 * S60 / 1000 ≤ r) × (r ≤ S60) ⌝ }
 {
-    let y = mul60(e, t);
-    let a = odd_ser60(&ARTANH, y);
-    let w = mul60(e, a);
-    alt60(&EXPONENTIAL, w)
+    if krasovsky {
+        return fixed_bands::k60_krasovsky(n);
+    }
+    fixed_bands::k60_grs80(n)
 }
 
 // Half of the numerator and of the denominator of sin f.
@@ -159,17 +79,17 @@ pub struct Spherical {
     pub kc: u64,
 }
 
-// Of an ellipsoid's e, a latitude of n ticks and a difference of longitude of d ticks.
-pub fn sphere60(e: u64, n: u64, d: u64) -> Spherical
-    requires { ⌜ (e ≤ 82 * S60 / 1000) × (172800000000 ≤ n) × (n ≤ 201600000000) × (d ≤ 19800000000) ⌝ }
-    ensures { λ r. ⌜ IsSphere e n d r ⌝ }
+// Of an ellipsoid, a latitude of n ticks and a difference of longitude of d ticks.
+pub fn sphere60(krasovsky: bool, n: u64, d: u64) -> Spherical
+    requires { ⌜ (172800000000 ≤ n) × (n ≤ 201600000000) × (d ≤ 19800000000) ⌝ }
+    ensures { λ r. ⌜ IsSphere (which krasovsky) n d r ⌝ }
     ensures size { λ r. ⌜ SphereSizes r ⌝ }
 {
-    let b = latitude60(n);
-    let a = longitude60(d);
+    let b = fixed_bands::latitude60(n);
+    let a = fixed_bands::longitude60(d);
     let t = b.sine;
     let c = b.cosine;
-    let k = k60(e, t);
+    let k = k60(krasovsky, n);
     let h = halves60(k, t);
     let kc = mul60(k, c);
     Spherical {
@@ -228,37 +148,35 @@ pub fn north30(centre: u64, radius: u64, s: Spherical) -> i64
     signed30(centre, u.south, r)
 }
 
-// An ellipsoid's e, and in units of 2^-30 m its R0 and R0 times 52 degrees less 5,760,000 m.
+// An ellipsoid's R0, and R0 times 52 degrees less 5,760,000 m, in units of 2^-30 m.
 pub struct Ellipsoid {
-    pub e: u64,
     pub radius: u64,
     pub centre: u64,
 }
 
 pub fn ellipsoid60(krasovsky: bool) -> Ellipsoid
-    ensures { λ r. ⌜ (r .e ≡ e60 (which krasovsky)) × (r .radius ≡ radius30 (which krasovsky)) × (r .centre ≡ centre30 (which krasovsky)) ⌝ }
-    ensures size { λ r. ⌜ (r .e ≤ 82 * S60 / 1000) × (r .radius ≤ 6838000000000000) × (r .centre ≤ 6838000000000000) ⌝ }
+    ensures { λ r. ⌜ (r .radius ≡ radius30 (which krasovsky)) × (r .centre ≡ centre30 (which krasovsky)) ⌝ }
+    ensures size { λ r. ⌜ (r .radius ≤ 6838000000000000) × (r .centre ≤ 6838000000000000) ⌝ }
 {
     if krasovsky {
         Ellipsoid {
-            e: 94324352151666884,
             radius: 6837113874861261,
             centre: 20414813166061,
         }
     } else {
         Ellipsoid {
-            e: 94331104842780033,
             radius: 6836996460007395,
             centre: 20308250824945,
         }
     }
 }
 
-// A point's sphere, cos f·sin d, and Mercator's pair: x less 5,760,000 m and the size of y, in units of 2^-30 m.
+// A point's sphere, cos f·sin d, and Mercator's pair: x less 5,760,000 m and the size of y, in units of 2^-30 m. The parts of the pair stand apart, because side by
+// side the compiler would fetch both at once, and wait until both are written.
 pub struct Mercator {
     pub sphere: Spherical,
-    pub across: u64,
     pub north: i64,
+    pub across: u64,
     pub east: u64,
 }
 
@@ -269,14 +187,14 @@ pub fn mercator60(krasovsky: bool, n: u64, d: u64) -> Mercator
     ensures size { λ r. ⌜ SphereSizes (r .sphere) × (r .across ≤ 11 * S60 / 100) ⌝ }
 {
     let k = ellipsoid60(krasovsky);
-    let sphere = sphere60(k.e, n, d);
+    let sphere = sphere60(krasovsky, n, d);
     let across = across60(sphere);
     let north = north30(k.centre, k.radius, sphere);
     let east = east30(k.radius, across);
     Mercator {
         sphere,
-        across,
         north,
+        across,
         east,
     }
 }

@@ -12,8 +12,8 @@ use Rattle.fixed.specs.Nearness.{Fixed, turned}
 use Rattle.fixed.specs.Laws.Products.{fix-mul, fix-le}
 use Rattle.fixed.specs.Laws.Numbers.{numbers}
 use Rattle.fixed_forward.specs.declared.Mercator.{Mercator}
-use Rattle.fixed_forward.specs.Latitude.{Latitude}
-use Rattle.fixed_forward.specs.Mercator.{K-of60, numerator-of, denominator-of, sphere-at}
+use Rattle.fixed_bands.specs.Bands.{Latitude}
+use Rattle.fixed_forward.specs.Mercator.{numerator-of, denominator-of, sphere-at}
 use Rattle.fixed_forward.specs.Points.{IsMercator}
 use Rattle.fixed_scale.specs.Scale.{square60, ratio60, meridian60, spread60, sphere-scale60, meridian-of, spread-of, sphere-scale-of, sphere-scale-of-near}
 use Rattle.fixed_scale.specs.Length.{length60, length-near}
@@ -40,11 +40,11 @@ scale-near E n l s d g b h f fσ =
 pub sphere-scale-is : {r : Mercator} (E : Ellipsoid) (n d : ℕ)
     → IsMercator E n d r
     → sphere-scale60 (ratio60 E) (r .sphere .k) (meridian60 (square60 E) (r .sphere .t)) (r .sphere .d2) (spread60 (r .across)) ≡ sphere-scale-of E n d
-unfolding sphere-scale-of meridian-of spread-of K-of60 denominator-of
+unfolding sphere-scale-of meridian-of spread-of denominator-of
 sphere-scale-is E n d i = let s = i .is-sphere in cc
 
 pub turn-is : {r : Mercator} (E : Ellipsoid) (n d : ℕ) → IsMercator E n d r → turn60 (sine-f60 (r .sphere .n2) (r .sphere .d2)) (r .sphere .sd) (r .sphere .cd) ≡ turn-of E n d
-unfolding turn-of numerator-of denominator-of K-of60
+unfolding turn-of numerator-of denominator-of
 turn-is E n d i = let s = i .is-sphere in cc
 
 pub scale-is : {r : Mercator} (E : Ellipsoid) (n d first slope : ℕ)

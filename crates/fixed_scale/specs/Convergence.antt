@@ -22,7 +22,8 @@ use Rattle.fixed.specs.Laws.Quotients.{near-least, ratio-div, ratio-mul-by, fix
 use Rattle.fixed.specs.Laws.Turned.{ratio-turned, fix-mul-turned, near-turn}
 use Rattle.fixed.specs.Laws.Functions.{fix-arctan}
 use Rattle.fixed.specs.Laws.Numbers.{numbers}
-use Rattle.fixed_forward.specs.Latitude.{Latitude, longitude-sine, longitude-cosine, longitude-sine-near, longitude-cosine-near}
+use Rattle.fixed_bands.specs.Worked.{longitude-sine, longitude-cosine}
+use Rattle.fixed_bands.specs.Bands.{Latitude, longitude-sine-near, longitude-cosine-near}
 use Rattle.fixed_forward.specs.Sphere.{numerator, denominator}
 use Rattle.fixed_forward.specs.Mercator.{numerator-of, denominator-of, numerator-of-near, denominator-of-near, sphere-at}
 
@@ -61,8 +62,8 @@ module _ (n2 d2 : ℕ) (n d : ℤ)
 -- ---- arctan(sin f·tan d)
 module _ {sf sd cd : ℕ} (s : Bool) (f z c : ℤ)
     (ff : Fixed sf f (10200 * unit) (59 * S60 / 100) (99 * S60 / 100))
-    (fz : Fixed sd (turned s z) (3000 * unit) 0 (961 * S60 / 10000))
-    (fc : Fixed cd c (30 * unit) (99 * S60 / 100) S60) where
+    (fz : Fixed sd (turned s z) (8 * unit) 0 (961 * S60 / 10000))
+    (fc : Fixed cd c (18 * unit) (99 * S60 / 100) S60) where
   c-low : 98 * unit / 100 ≤ natAbs c
   unfolding numbers
   c-low = le-trans (lit≤ tt) (near-least (fc .near) (fc .low))

@@ -19,9 +19,10 @@ use Rattle.fixed.specs.Laws.Products.{near-most, fix-shift, fix-const, fix-mul,
 use Rattle.fixed.specs.Laws.Quotients.{near-least, ratio-div, ratio-high, fix-twice, fix-mul-double, fix-quot-double}
 use Rattle.fixed.specs.Laws.Turned.{fix-square-turned, within-turned}
 use Rattle.fixed.specs.Laws.Numbers.{numbers}
-use Rattle.fixed_forward.specs.Latitude.{Latitude, latitude-sine, latitude-sine-near, latitude-cosine-near, longitude-sine-near}
+use Rattle.fixed_bands.specs.Worked.{latitude-sine, K60}
+use Rattle.fixed_bands.specs.Bands.{Latitude, latitude-sine-near, latitude-cosine-near, longitude-sine-near}
 use Rattle.fixed_forward.specs.Sphere.{denominator}
-use Rattle.fixed_forward.specs.Mercator.{K-of60, K-of-near, denominator-of, denominator-of-near, doubled-of-near, across-of, across-of-near, sphere-at}
+use Rattle.fixed_forward.specs.Mercator.{K-of-near, denominator-of, denominator-of-near, doubled-of-near, across-of, across-of-near, sphere-at}
 use Rattle.fixed_scale.specs.Root.{root60, fix-root, squareD, seriesD}
 use Rattle.fixed_scale.specs.Ratios.{product-high, scale-ratio, scale-high, both-ratio}
 
@@ -101,7 +102,7 @@ unfoldable pub spread-of : Ellipsoid → ℕ → ℕ → ℕ
 spread-of E n d = spread60 (across-of E n d)
 
 unfoldable pub sphere-scale-of : Ellipsoid → ℕ → ℕ → ℕ
-sphere-scale-of E n d = sphere-scale60 (ratio60 E) (K-of60 E n) (meridian-of E n) (denominator-of E n) (spread-of E n d)
+sphere-scale-of E n d = sphere-scale60 (ratio60 E) (K60 E n) (meridian-of E n) (denominator-of E n) (spread-of E n d)
 
 -- ---- the definition's roots
 unfoldable pub meridian-at : Ellipsoid → ℤ → ℤ
@@ -110,7 +111,7 @@ meridian-at E t = sqrt (one -ℤ product (product (constants E .e) (constants E 
 unfoldable pub spread-at : ℤ → ℤ → ℤ
 spread-at f z = sqrt (one -ℤ product (product f f) (product z z))
 
-pub meridian-near : {t : ℕ} (E : Ellipsoid) (y : ℤ) → Fixed t y (30 * unit) (70 * S60 / 100) (87 * S60 / 100) → Fixed (meridian60 (square60 E) t) (meridian-at E y) (213000 * unit) (994 * S60 / 1000) S60
+pub meridian-near : {t : ℕ} (E : Ellipsoid) (y : ℤ) → Fixed t y (16 * unit) (70 * S60 / 100) (87 * S60 / 100) → Fixed (meridian60 (square60 E) t) (meridian-at E y) (213000 * unit) (994 * S60 / 1000) S60
 unfolding meridian60 meridian-at numbers squareD seriesD
 meridian-near E y ft =
     fix-le (213000 * unit) (994 * S60 / 1000) S60 (fix-root (fix-mul (square-near E) (fix-mul ft ft tt tt) tt tt) tt tt tt) tt tt tt
@@ -128,7 +129,7 @@ spread-near {v} s f z hf hz fv =
 
 -- ---- the scale
 module _ {k r₁ r₂ : ℕ} (E : Ellipsoid) (d2 : ℕ) (K c ρ₁ d ρ₂ : ℤ)
-    (fk : Fixed k K (2200 * unit) (994 * S60 / 1000) S60)
+    (fk : Fixed k K (9 * unit) (994 * S60 / 1000) S60)
     (fc-high : Within c (1 * unit)) (fc-low : unit / 2 ≤ natAbs c)
     (f₁ : Fixed r₁ ρ₁ (213000 * unit) (994 * S60 / 1000) S60)
     (fd : Fixed (2 * d2) d (9000 * unit) (178 * S60 / 100) (220 * S60 / 100))

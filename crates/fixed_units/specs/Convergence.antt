@@ -22,7 +22,7 @@ use Rattle.fixed.specs.Laws.Loops.{alt60-is, mul-small}
 use Rattle.fixed.specs.Laws.Bounds.{w-pos}
 use Rattle.fixed.specs.Laws.Products.{near-neg}
 use Rattle.fixed.specs.Laws.Turned.{below-zero, turned-size, turned-within}
-use Rattle.fixed_forward.specs.Latitude.{Latitude, longitude-sine-near, longitude-cosine-near}
+use Rattle.fixed_bands.specs.Bands.{Latitude, longitude-sine-near, longitude-cosine-near}
 use Rattle.fixed_forward.specs.Sphere.{numerator, denominator}
 use Rattle.fixed_forward.specs.Mercator.{numerator-of, denominator-of, numerator-of-near, denominator-of-near, sphere-at}
 use Rattle.fixed_inverse.specs.Worked.{nearest-even}

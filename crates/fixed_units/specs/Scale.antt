@@ -19,7 +19,7 @@ use Rattle.fixed.specs.Worked.{S60, P30}
 use Rattle.fixed.specs.Nearness.{NearAt, Near60, Fixed, turned}
 use Rattle.fixed.specs.Laws.Bounds.{w-div, w-same, w-rest}
 use Rattle.fixed.specs.Laws.Products.{near-le}
-use Rattle.fixed_forward.specs.Latitude.{Latitude}
+use Rattle.fixed_bands.specs.Bands.{Latitude}
 use Rattle.fixed_forward.specs.Mercator.{sphere-at}
 use Rattle.fixed_inverse.specs.Laws.Ticks.{nearest-even-is}
 use Rattle.fixed_scale.specs.Answers.{scale-of, scale-near}

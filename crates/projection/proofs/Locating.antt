@@ -7,7 +7,7 @@ use Rattle.rules.specs.Units.{_°_′_″}
 use Rattle.rules.specs.Systems.{Ellipsoid}
 use Rattle.fixed.specs.Worked.{S60}
 use Rattle.fixed.specs.Laws.Turned.{below-zero}
-use Rattle.fixed_forward.specs.Latitude.{Latitude}
+use Rattle.fixed_bands.specs.Bands.{Latitude}
 use Rattle.fixed_forward.specs.Points.{IsMercator, SphereSizes}
 use Rattle.fixed_forward.specs.Sizes.{north-size, east-size}
 use Rattle.fixed_forward.specs.declared.Mercator.{Mercator}

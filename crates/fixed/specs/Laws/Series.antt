@@ -54,48 +54,6 @@ near-alt ds n k none = near-zero (alt-rest ds (near-most n k))
 near-alt [] n k (step a m e) = near-none (alt-top (step a m e))
 near-alt (d ∷ ds) n k (step {c = c} a m e) = near-sub e (near-const S60 (pos c) d) (near-mul m k (alt-top a) n (near-alt ds n k a))
 
--- the definition's series with + at −x, as the exponential has it: each product at −x is, turned, within one of that at x
-opposite : (x y : ℤ) → Within (x *ℤ y -ℤ negℤ (product (negℤ x) y) *ℤ pos unit) (1 * unit)
-opposite x y = w-same _ (law x y (product (negℤ x) y) (pos unit)) (w-neg (product-rest (negℤ x) y))
-  where
-    law : (x y z U : ℤ) → negℤ (negℤ x *ℤ y -ℤ z *ℤ U) ≡ x *ℤ y -ℤ negℤ z *ℤ U
-    law x y z U = ring (x ∷ y ∷ z ∷ U ∷ []) λ ρ e1 e2 e3 e4. simp (Z·ring, e1, e2, e3, e4) (by-ring _ _ _ refl)
-
-minus-neg : (d z : ℤ) → d -ℤ negℤ z ≡ d +ℤ z
-minus-neg d z = ring (d ∷ z ∷ []) λ ρ e1 e2. simp (Z·ring, e1, e2) (by-ring _ _ _ refl)
-
-pub near-alt-opposite : {q v : ℕ} {h e : ℕ} {cs : List ℕ} (x : ℤ) (ds : List ℤ) → Near60 q x e → q ≤ h → Alternating60 q cs v → Near60 v (summed (negℤ x) ds) (altE h e cs ds)
-unfolding altE summed top
-near-alt-opposite x ds n k none = near-zero (ser-rest ds (w-neg (near-most n k)))
-near-alt-opposite x [] n k (step a m e) = near-none (alt-top (step a m e))
-near-alt-opposite {v = v} {h = h} {e = ε} x (d ∷ ds) n k (step {c = c} {cs = cs} a m e) =
-    subst (λ w. Near60 v w (off-at S60 (pos c) d + mulE h ε (top cs) (altE h ε cs ds))) (minus-neg d (product (negℤ x) (summed (negℤ x) ds)))
-    (near-sub e (near-const S60 (pos c) d)
-    (near-mul-to (negℤ (product (negℤ x) (summed (negℤ x) ds))) m k (alt-top a) n (near-alt-opposite x ds n k a) (opposite x (summed (negℤ x) ds))))
-
--- so the two ways to write the definition's series at −x differ by some units of 10^-24, as many as there are steps and a little more where |x| ≤ h is small
-unfoldable pub oppositeB : ℕ → List ℤ → ℕ
-oppositeB h [] = 0
-oppositeB h (c ∷ cs) = (h * oppositeB h cs + 1 * unit + 1 * unit) / unit
-
-opposite-id : (c x s a p q U : ℤ) → negℤ (x *ℤ (s -ℤ a)) -ℤ (negℤ x *ℤ s -ℤ p *ℤ U) -ℤ (x *ℤ a -ℤ q *ℤ U) ≡ ((c +ℤ p) -ℤ (c -ℤ q)) *ℤ U
-opposite-id c x s a p q U = ring (c ∷ x ∷ s ∷ a ∷ p ∷ q ∷ U ∷ []) λ ρ e1 e2 e3 e4 e5 e6 e7. simp (Z·ring, e1, e2, e3, e4, e5, e6, e7) (by-ring _ _ _ refl)
-
-pub summed-opposite : {h : ℕ} (x : ℤ) (cs : List ℤ) → Within x h → Within (summed (negℤ x) cs -ℤ alternating x cs) (oppositeB h cs)
-unfolding summed alternating oppositeB
-summed-opposite x [] k = w-num 0
-summed-opposite x (c ∷ cs) k =
-    let s = summed (negℤ x) cs in
-    let a = alternating x cs in
-    w-div (summed (negℤ x) (c ∷ cs) -ℤ alternating x (c ∷ cs)) unit _ (lit< tt)
-    (w-same _ (opposite-id c x s a (product (negℤ x) s) (product x a) (pos unit))
-    (w-sub (w-sub (w-neg (w-mul k (summed-opposite x cs k))) (product-rest (negℤ x) s)) (product-rest x a)))
-
--- the exponential at −x, for x up to 1/100: within 3 units
-pub exponential-opposite : (x : ℤ) → Within x (unit / 100) → Within (exponential (negℤ x) -ℤ alternating x exponential-coefficients) 3
-unfolding exponential exponential-coefficients fractions factorial oppositeB
-exponential-opposite x k = w-up _ (lit≤ tt) (summed-opposite x exponential-coefficients k)
-
 -- the most (true) and the least (false) that a nest comes to, at a q from l to h
 unfoldable pub altB : Bool → ℕ → ℕ → List ℕ → ℕ
 altB b l h [] = 0
@@ -120,16 +78,6 @@ fix-alt cs ds t f u =
     let a = fixed-alt cs t f u in
     let r = alt-least (f .low) (f .high) a in
     record { near = near-alt ds (f .near) (f .high) a; low = r .0; high = r .1 }
-
-pub fix-alt-opposite : {q : ℕ} {e lo hi : ℕ} (x : ℤ) (cs : List ℕ) (ds : List ℤ)
-    → T (falls S60 cs)
-    → Fixed q x e lo hi
-    → T (leb hi S60)
-    → Fixed (alt60 q cs) (summed (negℤ x) ds) (altE hi e cs ds) (altB false lo hi cs) (altB true lo hi cs)
-fix-alt-opposite x cs ds t f u =
-    let a = fixed-alt cs t f u in
-    let r = alt-least (f .low) (f .high) a in
-    record { near = near-alt-opposite x ds (f .near) (f .high) a; low = r .0; high = r .1 }
 
 -- ---- c₀ + x·(c₁ + x·(..))
 unfoldable pub serH : ℕ → List ℕ → ℕ

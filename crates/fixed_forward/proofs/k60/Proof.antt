@@ -1,56 +1,36 @@
 -- `fixed_forward::k60` meets its contract. Assumes nothing.
-use mathlib.Core.Path.{_≡_}
+use mathlib.Core.Bool.{Bool, true, false}
+use mathlib.Core.Path.{_≡_, _∙_, sym, ap}
 use Prim.Native.Nat.{ℕ, _*_, _/_, _≤_}
 use native.Mathlib.Omega.{arith}
-use Rattle.rules.specs.Scaled.{unit}
-use Rattle.fixed.specs.Worked.{S60}
-use Rattle.fixed.specs.Laws.Products.{self, near-self}
-use Rattle.fixed_forward.specs.Sphere.{K60, K-at-near}
 use borrow.Author.Needs.{needs}
+use Rattle.fixed.specs.Worked.{S60}
+use Rattle.fixed_bands.specs.Worked.{K60}
+use Rattle.fixed_bands.specs.Bands.{K-near}
+use Rattle.fixed_forward.specs.Ellipsoids.{which}
 use Rattle.fixed_forward.proofs.k60.Statement.{statement}
 use Rattle.fixed_forward.proofs.k60.Tie as tie
 
-K-sizes : (e t : ℕ) → (e ≤ 82 * S60 / 1000) × (70 * S60 / 100 ≤ t) × (t ≤ 87 * S60 / 100) → (994 * S60 / 1000 ≤ K60 e t) × (K60 e t ≤ S60)
-K-sizes e t h =
-    let f = K-at-near (self e) (self t) (record { near = near-self e unit tt; low = omega arith; high = h .0 }) (record { near = near-self t (30 * unit) tt; low = h .1; high = h .2 }) in
-    (f .low, f .high)
+-- the K of a flag that is b
+chosen : {r : ℕ} (k b : Bool) (n : ℕ) → k ≡ b → (172800000000 ≤ n) × (n ≤ 201600000000) → r ≡ K60 (which b) n → (r ≡ K60 (which k) n) × ((994 * S60 / 1000 ≤ r) × (r ≤ S60))
+chosen {r} k b n e h q =
+    let f = K-near n (record { low = h .0; high = h .1 }) (which b) in
+    (q ∙ ap (λ x. K60 (which x) n) (sym e), sized q (f .low) (f .high))
+  where
+    sized : {v lo hi : ℕ} → r ≡ v → lo ≤ v → v ≤ hi → (lo ≤ r) × (r ≤ hi)
+    sized e a b = (omega arith, omega arith)
 
-sized : {r k lo hi : ℕ} → r ≡ k → (lo ≤ k) × (k ≤ hi) → (lo ≤ r) × (r ≤ hi)
-sized e h = (omega arith, omega arith)
-
-mul60-requires : tie.Need-mul60-requires
-mul60-requires c κs = search needs
-
-slice-aggregate-odd-ser60 : tie.Need-slice-aggregate-odd-ser60
-slice-aggregate-odd-ser60 c = search needs
-
-odd-ser60-requires : tie.Need-odd-ser60-requires
-odd-ser60-requires c κs = search needs
-
-mul60-requires-2 : tie.Need-mul60-requires-2
-mul60-requires-2 c κs = search needs
-
-slice-aggregate-alt60 : tie.Need-slice-aggregate-alt60
-slice-aggregate-alt60 c = search needs
-
-alt60-requires : tie.Need-alt60-requires
-alt60-requires c κs = search needs
+k60-krasovsky-requires : tie.Need-k60-krasovsky-requires
+k60-krasovsky-requires c κs = search needs
 
 returns : tie.Need-returns
-unfolding K60
-returns c =
-    let a = c .before .before .before .before .before .before in
-    let e : c .alt60 .result ≡ K60 (a .args .e) (a .args .t) = cc in
-    (e, sized e (K-sizes (a .args .e) (a .args .t) (a .pre)))
+returns c = chosen (c .before .before .args .krasovsky) true (c .before .before .args .n) (c .before .if1 .taken) (c .before .before .pre) (c .k60-krasovsky .ensures)
+
+k60-grs80-requires : tie.Need-k60-grs80-requires
+k60-grs80-requires c κs = search needs
+
+returns-2 : tie.Need-returns-2
+returns-2 c = chosen (c .before .before .args .krasovsky) false (c .before .before .args .n) (c .before .if1 .left) (c .before .before .pre) (c .k60-grs80 .ensures)
 
 pub k60-spec : {M : Type 1} → statement M
-k60-spec =
-    tie.close
-    (tie.spec
-    mul60-requires
-    slice-aggregate-odd-ser60
-    odd-ser60-requires
-    mul60-requires-2
-    slice-aggregate-alt60
-    alt60-requires
-    returns)
+k60-spec = tie.close (tie.spec k60-krasovsky-requires returns k60-grs80-requires returns-2)

@@ -1,12 +1,12 @@
 -- `fixed_forward::mercator60` meets its contract. Assumes nothing.
-use mathlib.Core.Path.{_∙_, subst}
+use mathlib.Core.Path.{_∙_}
 use mir.Syntax.{w64}
 use mir.ValLaws.{toZ-ofZ}
 use Rattle.fixed_forward.specs.Ellipsoids.{which}
 use Rattle.fixed_forward.specs.Across.{across60}
 use Rattle.fixed_forward.specs.Along.{north30}
 use Rattle.fixed_forward.specs.Mercator.{east-of}
-use Rattle.fixed_forward.specs.Points.{IsSphere, across-is, north-is}
+use Rattle.fixed_forward.specs.Points.{across-is, north-is}
 use borrow.Author.Needs.{needs, sfits-of}
 use Rattle.fixed_forward.proofs.mercator60.Statement.{statement}
 use Rattle.fixed_forward.proofs.mercator60.Tie as tie
@@ -34,7 +34,7 @@ returns c =
     let n = a .args .n in
     let d = a .args .d in
     let k = c .before .before .before .before .ellipsoid60 .ensures .0 in
-    let s = subst (λ e. IsSphere e n d (c .before .before .before .sphere60 .result)) (k .0) (c .before .before .before .sphere60 .ensures .0) in
+    let s = c .before .before .before .sphere60 .ensures .0 in
     let ea = across-is E n d s in
     let en = north-is E n d s in (
       record {

@@ -3,7 +3,7 @@ use mathlib.Core.Path.{_≡_, sym, ap, ap₂, _∙_}
 use lib.IntN.{ℤ, _-ℤ_}
 use mir.Facts.{toZ-ofZ}
 use Rattle.rules.specs.Points.{latitude-bad, longitude-bad}
-use Rattle.fixed_forward.specs.Latitude.{Latitude}
+use Rattle.fixed_bands.specs.Bands.{Latitude}
 use Rattle.projection.specs.Answers.{forward-paper}
 use Rattle.projection.specs.Worked.{worked-X, worked-Y, worked-scale, worked-convergence}
 use Rattle.projection.specs.Checked.{latitude-refused, longitude-refused, point-numbers}

@@ -31,7 +31,7 @@ use Rattle.metres.proofs.Into.{per-one, argument-small}
 use Rattle.fixed.specs.Worked.{S60}
 use Rattle.fixed.specs.Nearness.{NearAt, Near60, Fixed, turned}
 use Rattle.fixed.specs.Laws.Turned.{below-zero, turned-within, turned-twice}
-use Rattle.fixed_forward.specs.Latitude.{Latitude}
+use Rattle.fixed_bands.specs.Bands.{Latitude}
 use Rattle.fixed_forward.specs.Mercator.{north-of, east-of, mercator-at, mercator-near}
 use Rattle.fixed_forward.specs.Sizes.{north-size, east-size, east-narrow}
 use Rattle.projection.specs.Worked.{z-of, slope-pair, first60, slope60, below-nought}

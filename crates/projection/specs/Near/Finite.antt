@@ -13,7 +13,7 @@ use Rattle.rules.specs.Proofs.Checks.{latitude-exact}
 use Rattle.double.specs.Bound.{reach}
 use Rattle.double.proofs.Systems.{forward-light, derivative-light}
 use Rattle.double.proofs.Never.{passes}
-use Rattle.fixed_forward.specs.Latitude.{Latitude}
+use Rattle.fixed_bands.specs.Bands.{Latitude}
 use Rattle.fixed_forward.specs.Mercator.{north-of, east-of}
 use Rattle.fixed_forward.specs.Sizes.{north-size, east-size}
 use Rattle.projection.specs.Worked.{z-of, plane-pair, slope-pair, both-finite, steps-finite}

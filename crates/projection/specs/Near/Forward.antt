@@ -26,7 +26,7 @@ use Rattle.metres.specs.Millimetres.{in-millimetres}
 use Rattle.metres.proofs.Answer.{millimetres-turn}
 use Rattle.fixed.specs.Nearness.{NearAt, turned}
 use Rattle.fixed.specs.Laws.Turned.{below-zero, turned-within}
-use Rattle.fixed_forward.specs.Latitude.{Latitude}
+use Rattle.fixed_bands.specs.Bands.{Latitude}
 use Rattle.fixed_forward.specs.Mercator.{north-of, east-of, mercator-at, MercatorNear, mercator-near}
 use Rattle.fixed_forward.specs.Sizes.{north-size, east-size}
 use Rattle.projection.specs.Worked.{z-of, plane-pair, scaled-part}

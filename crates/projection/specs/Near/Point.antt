@@ -18,7 +18,7 @@ use Rattle.rules.specs.Points.{Point, offset-X, offset-Y, latitude-bad, longitu
 use Rattle.rules.specs.Proofs.Checks.{longitude-exact}
 use Rattle.fixed.specs.Nearness.{turned}
 use Rattle.fixed.specs.Laws.Turned.{below-zero, turned-size}
-use Rattle.fixed_forward.specs.Latitude.{Latitude}
+use Rattle.fixed_bands.specs.Bands.{Latitude}
 use Rattle.fixed_forward.specs.Mercator.{sphere-at, mercator-at}
 use Rattle.fixed_units.specs.Scale.{scale-band}
 use Rattle.fixed_units.specs.Convergence.{convergence-band}

@@ -12,7 +12,7 @@ use Rattle.arith.specs.Machine.{v-in}
 use Rattle.fixed.specs.Laws.Turned.{below-zero}
 use Rattle.fixed_forward.specs.Ellipsoids.{which}
 use Rattle.fixed_forward.specs.Points.{IsMercator}
-use Rattle.fixed_forward.specs.Latitude.{Latitude}
+use Rattle.fixed_bands.specs.Bands.{Latitude}
 use Rattle.projection.specs.Near.Finite.{latitude-taken}
 use Rattle.projection.proofs.Locating.{located}
 use borrow.Author.Needs.{needs}

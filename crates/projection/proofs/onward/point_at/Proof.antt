@@ -19,7 +19,7 @@ use Rattle.metres.specs.Metres.{arguments-of}
 use Rattle.fixed.specs.Nearness.{turned}
 use Rattle.fixed.specs.Laws.Turned.{below-zero}
 use Rattle.fixed_forward.specs.Ellipsoids.{which}
-use Rattle.fixed_forward.specs.Latitude.{Latitude}
+use Rattle.fixed_bands.specs.Bands.{Latitude}
 use Rattle.systems.specs.Zones.{Stands}
 use Rattle.systems.specs.declared.Zone.{Zone}
 use Rattle.projection.specs.Worked.{z-of, plane-pair, slope-pair, scaled-part, scale-from, convergence-from, worked-X, worked-Y, worked-scale, worked-convergence}
