@@ -14,14 +14,15 @@ use Rattle.rules.specs.RingAnswers.{count-bad, span-bad}
 use Rattle.rules.specs.JobFile.{State, no-field, accepted, Step, ending}
 use Rattle.lines.specs.declared.Line.{Line}
 use Rattle.lines.specs.Said.{said, pasted}
-use Rattle.job.specs.declared.state.Answer as answers
-use Rattle.job.specs.declared.state.Answer.the-variants as case
-use Rattle.job.specs.declared.state.Phase as phases
-use Rattle.job.specs.declared.state.Phase.the-variants.{Idle, Gathering, Accepted}
+use Rattle.job_state.specs.declared.state.Answer as answers
+use Rattle.job_state.specs.declared.state.Answer.the-variants as case
+use Rattle.job_state.specs.declared.state.Phase as phases
+use Rattle.job_state.specs.declared.state.Phase.the-variants.{Idle, Gathering, Accepted}
 use Rattle.job.specs.declared.run.Run.{Run}
-use Rattle.job.specs.Gathered.{chosen, ring-of}
-use Rattle.job.specs.States.{view-by, view, line, paper}
-use Rattle.job.specs.Machine.{running, stopped, advanced, finished, Says, printed-at, refusal-text, held-of, progress-by}
+use Rattle.job_state.specs.Gathered.{chosen, ring-of}
+use Rattle.job_state.specs.States.{view-by, view, line, paper}
+use Rattle.job.specs.Machine.{running, stopped, advanced, finished, held-of, progress-by}
+use Rattle.job_lines.specs.Printed.{Says, printed-at, refusal-text}
 use Rattle.job.specs.Runs.{refuses, progress, Advancing, ending-by, last, last-text, Finishing}
 
 pub said-short : (l : Line) → l .count ≤ 128 → length (said l) ≤ 128

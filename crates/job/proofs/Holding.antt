@@ -17,7 +17,7 @@ use Rattle.records.specs.declared.Read as reader
 use Rattle.records.specs.declared.Read.the-variants.{Whole, Refused, End}
 use Rattle.records.specs.Kinds.{Found, here, nowhere, found}
 use Rattle.records.specs.Reader.{parsed, framed, read-at}
-use Rattle.job.specs.Gathered.{chosen}
+use Rattle.job_state.specs.Gathered.{chosen}
 use Rattle.job.specs.Machine.{settled, held-of}
 
 pub few : (c : ℕ) → settled c ≤ 17

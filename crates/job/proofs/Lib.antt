@@ -1,8 +1,4 @@
--- What the job's proofs share: of the ring calls (Flat), of the state's methods (Limits, Steps), of the lines (Printing), and of the run (Holding, Advance, Looping).
-pub mod Flat
-pub mod Limits
-pub mod Steps
-pub mod Printing
+-- What the proofs share: the held bytes (Holding), one record and the end of the file (Advance), and the loop over a chunk (Looping).
 pub mod Holding
 pub mod Advance
 pub mod Looping

@@ -20,8 +20,9 @@ use Rattle.records.specs.Reader.{read-at}
 use Rattle.job.specs.declared.run.Held.{Held}
 use Rattle.job.specs.declared.run.Run.{Run}
 use Rattle.job.specs.declared.run.Fed as feds
-use Rattle.job.specs.States.{view, stepped}
-use Rattle.job.specs.Machine.{Progress, running, stopped, Took, advanced, considered, byte-taken, fed, used-in, Says, refusal-text, held-of, progress-by}
+use Rattle.job_state.specs.States.{view, stepped}
+use Rattle.job.specs.Machine.{Progress, running, stopped, Took, advanced, considered, byte-taken, fed, used-in, held-of, progress-by}
+use Rattle.job_lines.specs.Printed.{Says, refusal-text}
 use Rattle.job.specs.Laws.{then-next, then-printed, one-next, one-printed, stopped-next, stopped-printed, stopped-used, byte-used, no-room, none-used}
 use Rattle.job.specs.Runs.{progress, refused-run, Refusing, Feeding}
 use Rattle.job.proofs.Holding.{kept, cut-held, no-end}

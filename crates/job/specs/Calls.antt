@@ -12,7 +12,7 @@ use Rattle.lines.specs.Said.{pasted}
 use Rattle.projection.specs.Worked.{worked-forward}
 use Rattle.job.specs.declared.run.Run.{Run}
 use Rattle.job.specs.declared.run.Fed.{Fed}
-use Rattle.job.specs.Gathered.{chosen}
+use Rattle.job_state.specs.Gathered.{chosen}
 use Rattle.job.specs.Machine.{Progress, fed, finished}
 use Rattle.job.specs.Laws.{then-next, then-printed}
 use Rattle.job.specs.Runs.{progress, Feeding, last-text, Finishing}

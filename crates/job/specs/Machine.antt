@@ -1,47 +1,22 @@
 -- The job over a file's bytes in chunks, as an executable definition: how far a job has come, what a byte makes of it, and what is printed. Each byte goes to the
 -- bytes of the record that is begun, until these are a whole record or no kind. Whole shows that this is the rules' job for every file, however it is cut.
 -- Offsets and counts are those of 64 bits, so a file of 2^64 bytes or more would be counted modulo 2^64. Assumes nothing.
-use mathlib.Core.Path.{_≡_}
 use mathlib.Core.Bool.{Bool, true, false}
 use mathlib.Core.List.{List, [], _∷_, _++_}
-use Prim.Native.Nat.{ℕ, suc, _+_, _-_, _%_, _^_, _≤_}
+use Prim.Native.Nat.{ℕ, suc, _+_, _-_, _%_, _^_}
 use lib.Dec.{eqb, ltb}
 use lib.IntN.{ℤ}
 use lib.ListN.{length, take}
 use Rattle.rules.specs.Refusals as rules
-use Rattle.rules.specs.Refusals.{answered, refused, crossed-at, ring-crossed, body-cut-off}
+use Rattle.rules.specs.Refusals.{answered, refused, crossed-at, body-cut-off}
 use Rattle.rules.specs.Points as points
-use Rattle.rules.specs.JobFile.{State, Step, text, decimal, refusal-line, ending}
-use Rattle.lines.specs.declared.Line.{Line}
-use Rattle.lines.specs.Said.{said}
+use Rattle.rules.specs.JobFile.{State, Step, ending}
 use Rattle.records.specs.declared.Read as reader
 use Rattle.records.specs.declared.Read.the-variants.{Whole, Refused, End}
 use Rattle.records.specs.Reader.{read-at}
-use Rattle.job.specs.declared.state.Answer as answers
-use Rattle.job.specs.declared.state.Answer.the-variants as case
-use Rattle.job.specs.Gathered.{chosen}
-use Rattle.job.specs.States.{line, stepped}
-
--- ---- the lines
-abbrev pub refusal-text : ℕ → ℕ → List ℕ
-refusal-text n offset = refusal-line n offset ++ text "\n"
-
-abbrev pub crossed-text : ℕ → ℕ → ℕ → List ℕ
-crossed-text offset i j = refusal-line ring-crossed offset ++ text " edges " ++ decimal i ++ text " " ++ decimal j ++ text "\n"
-
--- what an answer prints, of a record whose kind byte is at the offset
-abbrev pub printed-at : answers.Answer → ℕ → List ℕ
-printed-at case.Silent offset = line case.Silent
-printed-at (case.Field c n a) offset = line (case.Field c n a)
-printed-at (case.Nozzle X Y p) offset = line (case.Nozzle X Y p)
-printed-at (case.Point X Y s c) offset = line (case.Point X Y s c)
-printed-at (case.Refused n) offset = refusal-text n offset
-printed-at (case.Crossed i j) offset = crossed-text offset i j
-
--- a line of at most 128 bytes, and its text
-pub record Says (words : List ℕ) (l : Line) : Type 0 where
-  pub short : l .count ≤ 128
-  pub says : said l ≡ words
+use Rattle.job_state.specs.Gathered.{chosen}
+use Rattle.job_state.specs.States.{stepped}
+use Rattle.job_lines.specs.Printed.{refusal-text, crossed-text}
 
 -- ---- how far a job has come: the state, the offset of the record that is begun, the records before it, and its bytes so far; or refused
 pub data Progress : Type 0 where

@@ -9,16 +9,17 @@ use Rattle.rules.specs.Refusals.{body-cut-off, out-of-place}
 use Rattle.rules.specs.JobFile.{text, decimal}
 use Rattle.lines.specs.Said.{pasted}
 use Rattle.projection.specs.Worked.{worked-forward}
-use Rattle.job.specs.declared.state.Answer as answers
-use Rattle.job.specs.declared.state.Answer.the-variants as case
-use Rattle.job.specs.declared.state.Phase as phases
-use Rattle.job.specs.declared.state.Phase.the-variants.{Idle, Gathering, Accepted}
+use Rattle.job_state.specs.declared.state.Answer as answers
+use Rattle.job_state.specs.declared.state.Answer.the-variants as case
+use Rattle.job_state.specs.declared.state.Phase as phases
+use Rattle.job_state.specs.declared.state.Phase.the-variants.{Idle, Gathering, Accepted}
 use Rattle.job.specs.declared.run.Run.{Run}
 use Rattle.job.specs.declared.run.Fed.{Fed}
 use Rattle.job.specs.declared.run.Advanced.{Advanced}
-use Rattle.job.specs.Gathered.{chosen}
-use Rattle.job.specs.States.{view}
-use Rattle.job.specs.Machine.{Progress, Took, fed, used-in, finished, held-of, progress-by, refusal-text}
+use Rattle.job_state.specs.Gathered.{chosen}
+use Rattle.job_state.specs.States.{view}
+use Rattle.job.specs.Machine.{Progress, Took, fed, used-in, finished, held-of, progress-by}
+use Rattle.job_lines.specs.Printed.{refusal-text}
 
 abbrev pub refuses : answers.Answer → Bool
 refuses case.Silent = false

@@ -20,8 +20,9 @@ use Rattle.records.specs.declared.Read as reader
 use Rattle.records.specs.declared.Read.the-variants.{Whole, Refused}
 use Rattle.records.specs.Kinds.{Found, here, nowhere, found}
 use Rattle.records.specs.Reader.{parsed, framed, read-at}
-use Rattle.job.specs.States.{stepped}
-use Rattle.job.specs.Machine.{Progress, running, stopped, advanced, considered, byte-taken, fed, finished, over, refusal-text, crossed-text}
+use Rattle.job_state.specs.States.{stepped}
+use Rattle.job.specs.Machine.{Progress, running, stopped, advanced, considered, byte-taken, fed, finished, over}
+use Rattle.job_lines.specs.Printed.{refusal-text, crossed-text}
 use Rattle.job.specs.Laws.{joined, stopped-next, stopped-printed, over-next, over-printed}
 
 abbrev pub start : Progress

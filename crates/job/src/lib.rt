@@ -1,5 +1,5 @@
-// The job: what a job file's records make of the state that they come to, the lines that are printed, and a whole file's bytes in chunks.
-pub mod line;
-mod ring;
+// The job over a whole file: its bytes in chunks, by the state of job_state and the lines of job_lines.
 pub mod run;
-pub mod state;
+
+pub use job_lines::line;
+pub use job_state::state;

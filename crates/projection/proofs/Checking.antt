@@ -12,10 +12,10 @@ use Rattle.rules.specs.Proofs.Checks.{longitude-exact}
 use Rattle.systems.specs.Zones.{Stands, Sized}
 use Rattle.systems.specs.declared.Zone.{Zone}
 use Rattle.projection.specs.Located.{Taken}
-use Rattle.projection.specs.Worked.{worked-point, worked-forward}
+use Rattle.projection_worked.specs.Worked.{worked-point, worked-forward}
 use Rattle.projection.specs.Checked.{taken}
 use Rattle.projection.specs.declared.ForwardAnswer.the-variants.{Point}
-use Rattle.projection.specs.Near.Finite.{latitude-taken, finite-taken}
+use Rattle.projection_worked.specs.Near.Finite.{latitude-taken, finite-taken}
 
 pub within-reach : (z : Zone) (s : System) (l : ℤ) → Stands z s → Sized z → longitude-bad s l ≡ false → natAbs (l -ℤ z .meridian) ≤ 5 ° 30 ′ 0 ″
 within-reach z s l h k e =

@@ -2,6 +2,3 @@
 pub mod Checking
 pub mod Locating
 pub mod Parts
-pub mod Sides
-pub mod Standing
-pub mod Undoing

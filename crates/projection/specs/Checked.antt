@@ -10,7 +10,7 @@ use Rattle.rules.specs.Systems.{System, system}
 use Rattle.rules.specs.Points.{Point, latitude-bad, longitude-bad, forward-checks}
 use Rattle.rules.specs.Proofs.Checks.{forward-1, forward-2, forward-3, forward-passes}
 use Rattle.projection.specs.Answers.{plane-of}
-use Rattle.projection.specs.Worked.{forward-finite, steps-finite, worked-X, worked-Y, worked-scale, worked-convergence, worked-point, worked-forward}
+use Rattle.projection_worked.specs.Worked.{forward-finite, steps-finite, worked-X, worked-Y, worked-scale, worked-convergence, worked-point, worked-forward}
 
 module _ (code : ℕ) (B L : ℤ) where
   pub no-system : (n : ℕ) → system code ≡ refused n → worked-forward code B L ≡ refused n

@@ -1,9 +1,9 @@
 -- What the projection's contracts cite.
 pub mod Answers
-pub mod Worked
+pub use Rattle.projection_worked.specs.Worked
 pub mod Checked
 pub mod Located
 pub mod Stood
-pub mod Near
-pub mod Inverse
-pub mod Right
+pub use Rattle.projection_worked.specs.Near
+pub use Rattle.projection_worked.specs.Inverse
+pub use Rattle.projection_worked.specs.Right

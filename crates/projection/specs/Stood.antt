@@ -13,7 +13,7 @@ use Rattle.double.specs.Value.{value}
 use Rattle.fixed.specs.Nearness.{turned}
 use Rattle.fixed.specs.Laws.Turned.{below-zero}
 use Rattle.fixed_forward.specs.Ellipsoids.{which}
-use Rattle.projection.specs.Worked.{plane-pair, slope-pair, scaled-part, millionths-of, worked-X, worked-Y, scale-from, convergence-from, worked-scale, worked-convergence}
+use Rattle.projection_worked.specs.Worked.{plane-pair, slope-pair, scaled-part, millionths-of, worked-X, worked-Y, scale-from, convergence-from, worked-scale, worked-convergence}
 
 module _ (z : Zone) (s : System) (h : Stands z s) where
   pub millionths-are : natAbs (z .millionths) ≡ millionths-of s

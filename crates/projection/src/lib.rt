@@ -4,23 +4,20 @@ use systems::ZoneAnswer;
 ghost use mathlib.Core.Path.{_≡_};
 ghost use Rattle.systems.specs.Zones.{Found};
 ghost use Rattle.systems.specs.declared.ZoneAnswer.the-variants.{Known};
-ghost use Rattle.projection.specs.Answers.{forward-paper, plane-paper, plane-of, inverse-paper};
-ghost use Rattle.projection.specs.Inverse.{worked-inverse};
-ghost use Rattle.projection.specs.Worked.{worked-forward};
+ghost use Rattle.projection.specs.Answers.{forward-paper, plane-paper, plane-of};
+ghost use Rattle.projection_inverse.specs.Answers.{inverse-paper};
+ghost use Rattle.projection_worked.specs.Inverse.{worked-inverse};
+ghost use Rattle.projection_worked.specs.Worked.{worked-forward};
 
-pub mod backward;
 pub mod onward;
 pub mod steps;
+
+pub use projection_inverse::InverseAnswer;
+pub use projection_inverse::backward;
 
 // X, Y, scale and convergence, or the refusal's number.
 pub enum ForwardAnswer {
     Point(i64, i64, i64, i64),
-    Refused(u8),
-}
-
-// B and L, or the refusal's number.
-pub enum InverseAnswer {
-    Ticks(i64, i64),
     Refused(u8),
 }
 

@@ -1,20 +1,15 @@
 -- What the calls answer, as the paper's answers: one definition for each kind of answer gives the paper's number and values for each of its cases. Assumes nothing.
 use mathlib.Core.Path.{_≡_}
 use mathlib.Core.List.{List}
-use Prim.Native.Nat.{ℕ}
 use lib.IntN.{ℤ}
-use Rattle.rules.specs.Refusals.{Answer, answered, refused, crossed-at, ring-crossed, Passed, passed, _>>=_}
+use Rattle.rules.specs.Refusals.{Answer, answered, refused, crossed-at, Passed, passed, _>>=_}
 use Rattle.rules.specs.Rings.{Corner}
 use Rattle.rules.specs.RingAnswers.{Nozzle, open-nozzle, border-nozzle, shut-nozzle, nozzle, ring-checks, area-answer, turning-answer}
 use Rattle.rings.specs.declared.WholeAnswer.{WholeAnswer}
 use Rattle.rings.specs.declared.CrossingAnswer.{CrossingAnswer}
 use Rattle.rings.specs.declared.NozzleAnswer.{NozzleAnswer}
-
 -- the number of a refusal, or 0
-abbrev pub refusal-of : {A : Type 0} → Answer A → ℕ
-refusal-of (answered a) = 0
-refusal-of (refused n) = n
-refusal-of (crossed-at i j) = ring-crossed
+pub use Rattle.ring_checks.specs.Refusal.{refusal-of}
 
 -- doubled area and turning number
 abbrev pub whole-paper : WholeAnswer → Answer ℤ

@@ -2,18 +2,13 @@
 // Each answers as the rules do, refusals included, for every slice and every point; no call copies the ring.
 ghost use mathlib.Core.Path.{_≡_};
 ghost use Rattle.rules.specs.RingAnswers.{ring-checks, crossing-answer, nozzle-answer};
-ghost use Rattle.rings.specs.Answers.{refusal-of, AreaCall, TurningCall, crossing-paper, nozzle-paper, position-answer};
-ghost use Rattle.rings.specs.Corners.{corner};
+ghost use Rattle.rings.specs.Answers.{AreaCall, TurningCall, crossing-paper, nozzle-paper, position-answer};
+ghost use Rattle.ring_checks.specs.Refusal.{refusal-of};
+ghost use Rattle.ring_corners.specs.Corners.{corner};
+use ring_turning::turning;
 
-mod area;
-mod checks;
-mod corners;
-mod meeting;
-mod search;
-mod sides;
+mod crossed;
 mod standing;
-mod touching;
-mod turning;
 
 // A whole number, or the number of a refusal.
 pub enum WholeAnswer {
@@ -41,25 +36,25 @@ pub enum NozzleAnswer {
 pub fn ring_refusal(corners: &[i64]) -> u8
     ensures { λ r. ⌜ r ≡ refusal-of (ring-checks (now (corners .entry))) ⌝ }
 {
-    checks::refusal(corners)
+    ring_checks::refusal(corners)
 }
 
 // The doubled area, positive where the ring runs clockwise on the map. A crossed ring has one too.
 pub fn area2(corners: &[i64]) -> WholeAnswer
     ensures { λ r. ⌜ AreaCall (now (corners .entry)) r ⌝ }
 {
-    let refusal = checks::refusal(corners);
+    let refusal = ring_checks::refusal(corners);
     if 0 < refusal {
         return WholeAnswer::Refused(refusal);
     }
-    WholeAnswer::Is(area::doubled(corners))
+    WholeAnswer::Is(ring_area::doubled(corners))
 }
 
 // The turning number at a point, which may be any pair of numbers. A crossed ring has one too.
 pub fn turning_number(corners: &[i64], px: i64, py: i64) -> WholeAnswer
     ensures { λ r. ⌜ TurningCall (now (corners .entry)) (corner px py) r ⌝ }
 {
-    let refusal = checks::refusal(corners);
+    let refusal = ring_checks::refusal(corners);
     if 0 < refusal {
         return WholeAnswer::Refused(refusal);
     }
@@ -70,7 +65,7 @@ pub fn turning_number(corners: &[i64], px: i64, py: i64) -> WholeAnswer
 pub fn position(corners: &[i64], px: i64, py: i64) -> NozzleAnswer
     ensures { λ r. ⌜ nozzle-paper r ≡ position-answer (now (corners .entry)) (corner px py) ⌝ }
 {
-    let refusal = checks::refusal(corners);
+    let refusal = ring_checks::refusal(corners);
     if 0 < refusal {
         return NozzleAnswer::Refused(refusal);
     }
@@ -81,22 +76,22 @@ pub fn position(corners: &[i64], px: i64, py: i64) -> NozzleAnswer
 pub fn crossing(corners: &[i64]) -> CrossingAnswer
     ensures { λ r. ⌜ crossing-paper r ≡ crossing-answer (now (corners .entry)) ⌝ }
 {
-    let refusal = checks::refusal(corners);
+    let refusal = ring_checks::refusal(corners);
     if 0 < refusal {
         return CrossingAnswer::Refused(refusal);
     }
-    search::first_pair(corners)
+    crossed::first_pair(corners)
 }
 
 // Border, open or shut at a point; a crossed ring is refused with its first pair of edges.
 pub fn nozzle(corners: &[i64], px: i64, py: i64) -> NozzleAnswer
     ensures { λ r. ⌜ nozzle-paper r ≡ nozzle-answer (now (corners .entry)) (corner px py) ⌝ }
 {
-    let refusal = checks::refusal(corners);
+    let refusal = ring_checks::refusal(corners);
     if 0 < refusal {
         return NozzleAnswer::Refused(refusal);
     }
-    match search::first_pair(corners) {
+    match crossed::first_pair(corners) {
         CrossingAnswer::Clean => standing::standing(corners, px, py),
         CrossingAnswer::Crossed(low, high) => NozzleAnswer::Crossed(low, high),
         CrossingAnswer::Refused(number) => NozzleAnswer::Refused(number),

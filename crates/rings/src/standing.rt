@@ -5,12 +5,12 @@ ghost use Rattle.rules.specs.Refusals.{answered};
 ghost use Rattle.rules.specs.Rings.{isZero};
 ghost use Rattle.rules.specs.RingAnswers.{nozzle};
 ghost use Rattle.rings.specs.Answers.{nozzle-paper};
-ghost use Rattle.rings.specs.Corners.{corner, pairs, Accepted};
+ghost use Rattle.ring_corners.specs.Corners.{corner, pairs, Accepted};
 ghost use Rattle.rings.specs.Standing.{settled-as};
 use crate::NozzleAnswer;
-use crate::corners;
-use crate::touching;
-use crate::touching::Touch;
+use ring_corners::corners;
+use ring_turning::touching;
+use ring_turning::touching::Touch;
 
 // Of a point that lies on no edge, by its turning number.
 fn settled(sum: i64) -> NozzleAnswer

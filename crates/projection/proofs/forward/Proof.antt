@@ -2,7 +2,7 @@
 use mathlib.Core.Path.{_≡_, sym, ap, ap₂, _∙_, subst}
 use mir.Facts.{toZ-ofZ}
 use Rattle.systems.specs.Zones.{Found}
-use Rattle.projection.specs.Worked.{worked-forward}
+use Rattle.projection_worked.specs.Worked.{worked-forward}
 use Rattle.projection.specs.Checked.{no-system}
 use borrow.Author.Needs.{needs}
 use Rattle.projection.proofs.forward.Statement.{statement}

@@ -5,7 +5,7 @@ use mir.Facts.{toZ-ofZ}
 use Rattle.rules.specs.Points.{latitude-bad, longitude-bad}
 use Rattle.fixed_bands.specs.Bands.{Latitude}
 use Rattle.projection.specs.Answers.{forward-paper}
-use Rattle.projection.specs.Worked.{worked-X, worked-Y, worked-scale, worked-convergence}
+use Rattle.projection_worked.specs.Worked.{worked-X, worked-Y, worked-scale, worked-convergence}
 use Rattle.projection.specs.Checked.{latitude-refused, longitude-refused, point-numbers}
 use Rattle.projection.specs.declared.ForwardAnswer.the-variants.{Point}
 use Rattle.projection.proofs.Checking.{taken-of, answered-of}

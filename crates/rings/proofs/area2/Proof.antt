@@ -6,7 +6,7 @@ use Rattle.rules.specs.Rings.{Corner, area2}
 use Rattle.rules.specs.RingAnswers.{area-answer}
 use lib.IntN.{ℤ}
 use Rattle.rings.specs.Proofs.Calls.{refuses, answers, accepts}
-use Rattle.rings.specs.Proofs.Signed.{held}
+use Rattle.ring_corners.specs.Proofs.Signed.{held}
 use borrow.Author.Needs.{needs}
 use Rattle.rings.proofs.area2.Statement.{statement}
 use Rattle.rings.proofs.area2.Tie as tie

@@ -7,9 +7,10 @@ use lib.IntN.{ℤ}
 use Rattle.rules.specs.Refusals.{Answer, answered, refused, crossed-at, Passed, passed, _>>=_, _>>_}
 use Rattle.rules.specs.Rings.{Corner}
 use Rattle.rules.specs.RingAnswers.{Nozzle, nozzle, ring-checks, not-crossed, crossing-answer, nozzle-answer}
-use Rattle.rings.specs.Answers.{refusal-of, position-answer}
-use Rattle.rings.specs.Corners.{pairs, Accepted}
-use Rattle.rings.specs.Proofs.Accept.{accepted, not-accepted}
+use Rattle.rings.specs.Answers.{position-answer}
+use Rattle.ring_checks.specs.Refusal.{refusal-of}
+use Rattle.ring_corners.specs.Corners.{pairs, Accepted}
+use Rattle.ring_checks.specs.Proofs.Accept.{accepted, not-accepted}
 
 -- n is what the code found to refuse, and f what is asked of the corners
 module _ (l : List ℤ) {n : ℕ} (e : n ≡ refusal-of (ring-checks l)) where

@@ -17,12 +17,12 @@ use Rattle.rules.specs.RingAnswers.{Nozzle, open-nozzle, border-nozzle, shut-no
 use Rattle.rules.specs.Proofs.Checks.{or-false}
 use Rattle.rules.specs.Proofs.Edges.{length-edges}
 use Rattle.rings.specs.Standing.{settled-as}
-use Rattle.rings.specs.Touching.{touch-of}
-use Rattle.rings.specs.Proofs.Sides.{leZ-true, leZ-false}
-use Rattle.rings.specs.Proofs.Touching.{and-true, and-left, and-right}
-use Rattle.rings.specs.Proofs.Turning.{Turning, run, run-at, turning-start, turning-step, turning-end, turning-fits}
-use Rattle.rings.specs.declared.touching.Touch.{Touch}
-use Rattle.rings.specs.declared.touching.Touch.the-variants.{OnEdge, Adds}
+use Rattle.ring_turning.specs.Touching.{touch-of}
+use Rattle.ring_corners.specs.Proofs.Sides.{leZ-true, leZ-false}
+use Rattle.ring_corners.specs.Proofs.Tests.{and-true, and-left, and-right}
+use Rattle.ring_turning.specs.Proofs.Turning.{Turning, run, run-at, turning-start, turning-step, turning-end, turning-fits}
+use Rattle.ring_turning.specs.declared.touching.Touch.{Touch}
+use Rattle.ring_turning.specs.declared.touching.Touch.the-variants.{OnEdge, Adds}
 
 -- ---- what an edge told
 told-on : (p : Corner) (e : Edge) → touch-of p e ≡ OnEdge → on p e ≡ true

@@ -20,7 +20,7 @@ use Rattle.fixed_scale.specs.Scale.{square60, ratio60, meridian60, spread60, sp
 use Rattle.fixed_scale.specs.Length.{length60}
 use Rattle.fixed_scale.specs.Convergence.{sine-f60, turn60, turn-of, convergence60}
 use Rattle.fixed_units.specs.Worked.{scale-units, convergence-units}
-use Rattle.projection.specs.Worked.{scaled-part, first60, slope60, below-nought, scale-from, convergence-from}
+use Rattle.projection_worked.specs.Worked.{scaled-part, first60, slope60, below-nought, scale-from, convergence-from}
 use Rattle.projection.specs.Located.{LocatedAt}
 use Rattle.projection.proofs.Checking.{four}
 use borrow.Author.Needs.{needs}

@@ -22,11 +22,11 @@ use Rattle.fixed_forward.specs.Ellipsoids.{which}
 use Rattle.fixed_bands.specs.Bands.{Latitude}
 use Rattle.systems.specs.Zones.{Stands}
 use Rattle.systems.specs.declared.Zone.{Zone}
-use Rattle.projection.specs.Worked.{z-of, plane-pair, slope-pair, scaled-part, scale-from, convergence-from, worked-X, worked-Y, worked-scale, worked-convergence}
-use Rattle.projection.specs.Near.Finite.{latitude-taken, plane-tame, slope-tame}
-use Rattle.projection.specs.Near.Derivative.{point-sloped}
-use Rattle.projection.specs.Near.Size.{Tame}
-use Rattle.projection.specs.Near.Slope.{Sloped}
+use Rattle.projection_worked.specs.Worked.{z-of, plane-pair, slope-pair, scaled-part, scale-from, convergence-from, worked-X, worked-Y, worked-scale, worked-convergence}
+use Rattle.projection_worked.specs.Near.Finite.{latitude-taken, plane-tame, slope-tame}
+use Rattle.projection_worked.specs.Near.Derivative.{point-sloped}
+use Rattle.projection_worked.specs.Near.Size.{Tame}
+use Rattle.projection_worked.specs.Near.Slope.{Sloped}
 use Rattle.projection.specs.Located.{LocatedAt}
 use Rattle.projection.specs.Stood.{X-stands, Y-stands, scale-stands, convergence-stands}
 use Rattle.projection.specs.declared.ForwardAnswer.the-variants.{Point}

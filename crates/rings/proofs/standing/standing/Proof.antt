@@ -10,14 +10,14 @@ use mir.Val.{SFits, toZ, ofZ}
 use Rattle.rules.specs.Refusals.{answered}
 use Rattle.rules.specs.RingAnswers.{nozzle}
 use Rattle.rules.specs.Rings.{Corner, _to_, origin}
-use Rattle.rings.specs.Corners.{corner, pairs, next-of}
+use Rattle.ring_corners.specs.Corners.{corner, pairs, next-of}
 use Rattle.rings.specs.Standing.{settled-as}
-use Rattle.rings.specs.Touching.{touch-of}
-use Rattle.rings.specs.Proofs.Flat.{half, next-inside}
-use Rattle.rings.specs.Proofs.Signed.{raw, raw-is}
-use Rattle.rings.specs.Proofs.Turning.{run}
+use Rattle.ring_turning.specs.Touching.{touch-of}
+use Rattle.ring_corners.specs.Proofs.Flat.{half, next-inside}
+use Rattle.ring_corners.specs.Proofs.Signed.{raw, raw-is}
+use Rattle.ring_turning.specs.Proofs.Turning.{run}
 use Rattle.rings.specs.Proofs.Standing.{Passing, passing-start, passing-step, passing-end, passing-fits, hit}
-use Rattle.rings.specs.declared.touching.Touch.the-variants.{OnEdge, Adds}
+use Rattle.ring_turning.specs.declared.touching.Touch.the-variants.{OnEdge, Adds}
 use borrow.Author.Needs.{needs}
 use Rattle.rings.proofs.standing.standing.Statement.{statement}
 use Rattle.rings.proofs.standing.standing.Tie as tie

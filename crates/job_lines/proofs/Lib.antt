@@ -1,0 +1,2 @@
+-- What the proofs share: a line built up of texts and numbers (Printing).
+pub mod Printing

@@ -1,0 +1,3 @@
+-- What the contracts of job_lines cite.
+--   Printed   what an answer prints, and what a line says
+pub mod Printed

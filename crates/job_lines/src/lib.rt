@@ -1,0 +1,2 @@
+// The lines that a job prints.
+pub mod line;

@@ -1,0 +1,186 @@
+-- The gathered corners laid out flat: the loop that does it, and the rules' checks of the flat list. Assumes nothing.
+use mathlib.Core.Path.{_≡_, refl, sym, ap, _∙_}
+use mathlib.Core.Bool.{Bool, true, false}
+use mathlib.Core.List.{List, [], _∷_, _++_, map, append-assoc}
+use Prim.Native.Nat.{ℕ, suc, _+_, _-_, _*_, _^_, _<_}
+use native.Mathlib.Numerals.{add-one}
+use native.Mathlib.Omega.{arith}
+use borrow.Author.Tests.{le-ltb, ltb-false}
+use lib.IntN.{ℤ, pos, negsuc, negℤ}
+use lib.ListN.{length, take, getD, set, length-set}
+use lib.Seq.{take-suc, take-suc-set}
+use lib.Signed.{ltZ, mag}
+use mir.Syntax.{w64}
+use mir.Val.{toZ, ofZ, SFits}
+use mir.Facts.{toZ-ofZ}
+use Rattle.rules.specs.Rings.{Corner, area2}
+use Rattle.rules.specs.Points.{above}
+use Rattle.rules.specs.Refusals.{Answer, answered, refused, crossed-at, Passed, _>>=_, _>>_, _if_, corner-count, span-too-large}
+use Rattle.rules.specs.RingAnswers.{corners, count-bad, number-bad, corner-bad, any-bad, span-bad, not-crossed, ring-checks, area-answer, crossing-answer, Nozzle, nozzle}
+use Rattle.rings.specs.declared.CrossingAnswer as crossings
+use Rattle.rings.specs.declared.CrossingAnswer.the-variants as crossing-case
+use Rattle.rings.specs.Answers.{crossing-paper, position-answer}
+use Rattle.job_state.specs.declared.ring.Judged as judgement
+use Rattle.job_state.specs.declared.state.Corner as code
+use Rattle.job_state.specs.Gathered.{chosen, within, at, corner-of, ring-of, flat, judged, judged-flat, judged-paper, located}
+
+-- ---- a number within the limits
+module _ (z : ℤ) (f : SFits w64 z) where
+  seen : (a : ℤ) {t : Bool} → ltZ a (toZ w64 (ofZ w64 z)) ≡ t → ltZ a z ≡ t
+  seen a h = ap (λ (y : ℤ). ltZ a y) (sym (toZ-ofZ f)) ∙ h
+
+  under : (a : ℤ) {t : Bool} → ltZ (toZ w64 (ofZ w64 z)) a ≡ t → ltZ z a ≡ t
+  under a h = ap (λ (y : ℤ). ltZ y a) (sym (toZ-ofZ f)) ∙ h
+
+  pub high : ltZ (pos (10 ^ 10)) (toZ w64 (ofZ w64 z)) ≡ true → pos (10 ^ 10) ≡ within z
+  unfolding within
+  high h = rw (seen (pos (10 ^ 10)) h) refl
+
+  pub low : ltZ (pos (10 ^ 10)) (toZ w64 (ofZ w64 z)) ≡ false → ltZ (toZ w64 (ofZ w64 z)) (negℤ (pos (10 ^ 10))) ≡ true → negℤ (pos (10 ^ 10)) ≡ within z
+  unfolding within
+  low h g = rw (seen (pos (10 ^ 10)) h, under (negℤ (pos (10 ^ 10))) g) refl
+
+  pub inside : ltZ (pos (10 ^ 10)) (toZ w64 (ofZ w64 z)) ≡ false → ltZ (toZ w64 (ofZ w64 z)) (negℤ (pos (10 ^ 10))) ≡ false
+      → toZ w64 (ofZ w64 z) ≡ within z
+  unfolding within
+  inside h g = rw (seen (pos (10 ^ 10)) h, under (negℤ (pos (10 ^ 10))) g) (toZ-ofZ f)
+
+-- ---- the loop
+pub flat-append : (a b : List Corner) → flat (a ++ b) ≡ flat a ++ flat b
+unfolding flat
+flat-append [] b = refl
+flat-append (c ∷ a) b = ap (λ (l : List ℤ). c .x ∷ c .y ∷ l) (flat-append a b)
+
+pub map-append : {A B : Type 0} (f : A → B) (a b : List A) → map f (a ++ b) ≡ map f a ++ map f b
+map-append f [] b = refl
+map-append f (x ∷ a) b = ap (λ l. f x ∷ l) (map-append f a b)
+
+pub ring-more : (cs : List code.Corner) (i : ℕ) (d : code.Corner) → i < length cs → ring-of (i + 1) cs ≡ ring-of i cs ++ (corner-of (getD cs i d) ∷ [])
+unfolding ring-of
+ring-more cs i d h =
+    ap (λ (k : ℕ). map corner-of (take k cs)) (add-one i) ∙ ap (map corner-of) (take-suc cs i d h) ∙ map-append corner-of (take i cs) (getD cs i d ∷ [])
+
+pub record Flattening (cs : List code.Corner) (numbers : List ℤ) (i : ℕ) : Type 0 where
+  pub long : length numbers ≡ 2048
+  pub has : take (2 * i) numbers ≡ flat (ring-of i cs)
+
+pub starts : (cs : List code.Corner) (numbers : List ℤ) → length numbers ≡ 2048 → Flattening cs numbers 0
+unfolding flat ring-of
+starts cs numbers e = record { long = e; has = refl }
+
+two-more : (l : List ℤ) (n : ℕ) (a b : ℤ) → n + 1 < length l → take (suc (suc n)) (set (set l n a) (n + 1) b) ≡ take n l ++ (a ∷ b ∷ [])
+two-more l n a b h =
+    ap (λ (k : ℕ). take (suc (suc n)) (set (set l n a) k b)) (add-one n)
+    ∙ take-suc-set (set l n a) (suc n) b (rw (length-set l n a) (omega arith))
+    ∙ ap (λ (t : List ℤ). t ++ (b ∷ [])) (take-suc-set l n a (omega arith))
+    ∙ append-assoc (take n l) (a ∷ []) (b ∷ [])
+
+pub turned : {cs : List code.Corner} {numbers : List ℤ} {i : ℕ} (d : code.Corner) (x y : ℤ) → Flattening cs numbers i → i < 1024 → length cs ≡ 1024
+    → x ≡ within (getD cs i d .x) → y ≡ within (getD cs i d .y) → Flattening cs (set (set numbers (2 * i) x) (2 * i + 1) y) (i + 1)
+unfolding flat
+turned {cs} {numbers} {i} d x y g h e ex ey = record {
+  long = length-set (set numbers (2 * i) x) (2 * i + 1) y ∙ length-set numbers (2 * i) x ∙ g .long;
+  has =
+      ap (λ (k : ℕ). take k (set (set numbers (2 * i) x) (2 * i + 1) y)) (twice i)
+      ∙ two-more numbers (2 * i) x y (let l = g .long in omega arith)
+      ∙ ap (λ (l : List ℤ). l ++ (x ∷ y ∷ [])) (g .has)
+      ∙ ap (λ (a : ℤ). flat (ring-of i cs) ++ (a ∷ y ∷ [])) ex
+      ∙ ap (λ (b : ℤ). flat (ring-of i cs) ++ (within (getD cs i d .x) ∷ b ∷ [])) ey
+      ∙ sym (ap flat (ring-more cs i d (omega arith)) ∙ flat-append (ring-of i cs) (corner-of (getD cs i d) ∷ []));
+}
+  where
+    twice : (i : ℕ) → 2 * (i + 1) ≡ suc (suc (2 * i))
+    twice i = omega arith
+
+-- a callee's signed result, read back from its bits as its argument was
+pub limited-back : {z : ℤ} (y : ℤ) → mag z < 2 ^ 63 → mag y < 2 ^ 63 → z ≡ within (toZ w64 (ofZ w64 y)) → toZ w64 (ofZ w64 z) ≡ within y
+limited-back y h g e = toZ-ofZ (record { sfits = h }) ∙ e ∙ ap within (toZ-ofZ (record { sfits = g }))
+
+-- ---- the rules' checks of the flat list, of a ring whose numbers are within their limits
+pub corners-flat : (r : List Corner) → corners (flat r) ≡ answered r
+unfolding corners flat
+corners-flat [] = refl
+corners-flat (c ∷ r) = rw (corners-flat r) refl
+
+no-bad-number : (z : ℤ) → number-bad (within z) ≡ false
+unfolding number-bad above within
+no-bad-number z = go (ltZ (pos (10 ^ 10)) z) refl (ltZ z (negℤ (pos (10 ^ 10)))) refl
+  where
+    go : (s : Bool) → ltZ (pos (10 ^ 10)) z ≡ s → (t : Bool) → ltZ z (negℤ (pos (10 ^ 10))) ≡ t
+        → number-bad (chosen s (pos (10 ^ 10)) (chosen t (negℤ (pos (10 ^ 10))) z)) ≡ false
+    go true e t f = refl
+    go false e true f = refl
+    go false e false f = still z e f
+      where
+        still : (z : ℤ) → ltZ (pos (10 ^ 10)) z ≡ false → ltZ z (negℤ (pos (10 ^ 10))) ≡ false → number-bad z ≡ false
+        still (pos n) e f = e
+        still (negsuc n) e f = let h = ltb-false 9_999_999_999 n f in le-ltb (10 ^ 10) (suc n) (omega arith)
+
+no-bad-corner : (c : code.Corner) → corner-bad (corner-of c) ≡ false
+unfolding corner-bad
+no-bad-corner c = rw (no-bad-number (c .x), no-bad-number (c .y)) refl
+
+none-bad : (cs : List code.Corner) → any-bad (map corner-of cs) ≡ false
+unfolding any-bad
+none-bad [] = refl
+none-bad (c ∷ cs) = rw (no-bad-corner c, none-bad cs) refl
+
+pub ring-within : (n : ℕ) (cs : List code.Corner) → any-bad (ring-of n cs) ≡ false
+unfolding ring-of
+ring-within n cs = none-bad (take n cs)
+
+module _ (r : List Corner) (good : any-bad r ≡ false) where
+  checks-by : Bool → Bool → Answer (List Corner)
+  checks-by a b = do
+    corner-count if a
+    span-too-large if b
+    answered r
+
+  checks-flat : ring-checks (flat r) ≡ checks-by (count-bad r) (span-bad r)
+  unfolding ring-checks checks-by
+  checks-flat = rw (corners-flat r) (rw good refl)
+
+  pub located-by-flat : (p : Corner) → position-answer (flat r) p ≡ located r p
+  unfolding position-answer located checks-by
+  located-by-flat p = rw checks-flat (go (count-bad r) (span-bad r))
+    where
+      go : (a b : Bool) → (checks-by a b >>= λ r. answered (nozzle r p)) ≡ ((corner-count if a) >> ((span-too-large if b) >> answered (nozzle r p)))
+      go true b = refl
+      go false true = refl
+      go false false = refl
+
+  pub judged-by-flat : judged-flat (flat r) ≡ judged r
+  unfolding judged-flat crossing-answer area-answer judged checks-by
+  judged-by-flat = rw checks-flat (go (count-bad r) (span-bad r))
+    where
+      go : (a b : Bool)
+          → ((checks-by a b >>= not-crossed) >> (checks-by a b >>= λ s. answered (area2 s))) ≡ ((corner-count if a) >> ((span-too-large if b) >> (not-crossed r >> answered (area2 r))))
+      go true b = refl
+      go false true = refl
+      go false false = refl
+
+-- a call's answer on the flat list is the ring's
+pub located-back : {a : Answer Nozzle} (numbers : List ℤ) (r : List Corner) (x y : ℤ) → numbers ≡ flat r → any-bad r ≡ false → SFits w64 x → SFits w64 y
+    → a ≡ position-answer numbers (at (toZ w64 (ofZ w64 x)) (toZ w64 (ofZ w64 y))) → a ≡ located r (at x y)
+located-back numbers r x y e good f g h = h ∙ rw (e, toZ-ofZ f, toZ-ofZ g) (located-by-flat r good (at x y))
+
+-- a part of the array from its start on
+pub part : (n : ℕ) (l : List ℤ) {r : List ℤ} → take n l ≡ r → take (n - 0) l ≡ r
+part n l e = ap (λ (k : ℕ). take k l) (same n) ∙ e
+  where
+    same : (n : ℕ) → n - 0 ≡ n
+    same n = omega arith
+
+-- ---- the crossing test's cases
+module _ (numbers : List ℤ) {c : crossings.CrossingAnswer} (told : crossing-paper c ≡ crossing-answer numbers) where
+  pub clean-judged : (p : judgement.Judged) → c ≡ crossing-case.Clean → judged-paper p ≡ area-answer numbers → judged-paper p ≡ judged-flat numbers
+  unfolding judged-flat
+  clean-judged p e h = h ∙ ap (λ (x : Answer Passed). x >> area-answer numbers) (sym (ap crossing-paper e) ∙ told)
+
+  pub crossed-judged : {i j : ℕ} → c ≡ crossing-case.Crossed i j → crossed-at i j ≡ judged-flat numbers
+  unfolding judged-flat
+  crossed-judged e = ap (λ (x : Answer Passed). x >> area-answer numbers) (sym (ap crossing-paper e) ∙ told)
+
+  pub refused-judged : {n : ℕ} → c ≡ crossing-case.Refused n → refused n ≡ judged-flat numbers
+  unfolding judged-flat
+  refused-judged e = ap (λ (x : Answer Passed). x >> area-answer numbers) (sym (ap crossing-paper e) ∙ told)

@@ -1,0 +1,3 @@
+// The job's state by value, and what a record makes of it.
+mod ring;
+pub mod state;

@@ -1,0 +1,88 @@
+// The gathered corners as the ring calls take them: a flat list of numbers.
+ghost use mathlib.Core.Path.{_≡_};
+ghost use Prim.Native.Nat.{_*_, _≤_};
+ghost use lib.ListN.{length, take};
+ghost use Rattle.job_state.specs.Gathered.{within, flat, ring-of, at, judged, judged-flat, judged-paper, located};
+ghost use Rattle.rules.specs.RingAnswers.{area-answer};
+ghost use Rattle.rings.specs.Answers.{nozzle-paper};
+use crate::state::Corner;
+use rings::CrossingAnswer;
+use rings::NozzleAnswer;
+use rings::WholeAnswer;
+
+// A number past ±10^10, which no corner has that a job took in, is read as that limit.
+fn limited(z: i64) -> i64
+    ensures { λ r. ⌜ r ≡ within z ⌝ }
+{
+    if 10000000000 < z {
+        return 10000000000;
+    }
+    if z < -10000000000 {
+        return -10000000000;
+    }
+    z
+}
+
+// The first `count` corners, X and Y in turn.
+fn flatten(corners: [Corner; 1024], count: usize) -> [i64; 2048]
+    requires { ⌜ count ≤ 1024 ⌝ }
+    ensures { λ r. ⌜ (length r ≡ 2048) × (take (2 * count) r ≡ flat (ring-of count corners)) ⌝ }
+{
+    let mut numbers = [0i64; 2048];
+    let mut i: usize = 0;
+    while i < count {
+        let c = corners[i];
+        numbers[2 * i] = limited(c.x);
+        numbers[2 * i + 1] = limited(c.y);
+        i += 1;
+    }
+    numbers
+}
+
+// A ring that is closed: its doubled area, or the refusal.
+pub enum Judged {
+    Area(i64),
+    Refused(u8),
+    Crossed(u64, u64),
+}
+
+// The first `count` corners as a ring that is closed.
+pub fn judge(corners: [Corner; 1024], count: usize) -> Judged
+    requires { ⌜ count ≤ 1024 ⌝ }
+    ensures { λ r. ⌜ judged-paper r ≡ judged (ring-of count corners) ⌝ }
+{
+    let numbers = flatten(corners, count);
+    let end = 2 * count;
+    judge_flat(&numbers[0..end])
+}
+
+// A point and the ring of the first `count` corners.
+pub fn locate(corners: [Corner; 1024], count: usize, x: i64, y: i64) -> NozzleAnswer
+    requires { ⌜ count ≤ 1024 ⌝ }
+    ensures { λ r. ⌜ nozzle-paper r ≡ located (ring-of count corners) (at x y) ⌝ }
+{
+    let numbers = flatten(corners, count);
+    let end = 2 * count;
+    rings::position(&numbers[0..end], x, y)
+}
+
+fn judge_flat(numbers: &[i64]) -> Judged
+    ensures { λ r. ⌜ judged-paper r ≡ judged-flat (now (numbers .entry)) ⌝ }
+{
+    let crossing = rings::crossing(numbers);
+    match crossing {
+        CrossingAnswer::Clean => judge_area(numbers),
+        CrossingAnswer::Crossed(low, high) => Judged::Crossed(low, high),
+        CrossingAnswer::Refused(n) => Judged::Refused(n),
+    }
+}
+
+fn judge_area(numbers: &[i64]) -> Judged
+    ensures { λ r. ⌜ judged-paper r ≡ area-answer (now (numbers .entry)) ⌝ }
+{
+    let area = rings::area2(numbers);
+    match area {
+        WholeAnswer::Is(z) => Judged::Area(z),
+        WholeAnswer::Refused(n) => Judged::Refused(n),
+    }
+}

@@ -1,9 +1,0 @@
--- What the projection owes of its two functions, whole: every answer of the forward and of the inverse is right by the rules. Assumes nothing.
-use Rattle.rules.specs.Points.{Right}
-use Rattle.projection.specs.Worked.{forward-finite, worked-forward}
-use Rattle.projection.specs.Inverse.{inverse-finite, worked-inverse}
-use Rattle.projection.specs.Near.Point.{forward-right}
-use Rattle.projection.specs.Near.Inverse.{inverse-right}
-
-pub right : Right forward-finite inverse-finite worked-forward worked-inverse
-right = record { forward-right = forward-right; inverse-right = inverse-right }

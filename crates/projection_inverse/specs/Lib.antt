@@ -1,0 +1,2 @@
+-- What the inverse's contracts cite beside the worked values.
+pub mod Answers

@@ -1,0 +1,39 @@
+-- Y of a corner less that of the first, which is small. Assumes nothing.
+use mathlib.Core.Path.{_≡_}
+use lib.ListN.{getD}
+use mir.Syntax.{w64}
+use mir.Val.{toZ, ofZ}
+use Rattle.rules.specs.Rings.{origin}
+use Rattle.ring_corners.specs.Corners.{pairs, Near}
+use Rattle.ring_corners.specs.Proofs.Flat.{first-in}
+use Rattle.ring_corners.specs.Proofs.Signed.{held, need-diff, v-diff}
+use Rattle.ring_area.proofs.y_from_first.Statement.{statement}
+use Rattle.ring_area.proofs.y_from_first.Tie as tie
+
+module _ (c : tie.After-y-at2) where
+  abbrev st : tie.Start
+  st = c .before .before
+
+  at-i : toZ w64 (ofZ w64 (c .before .y-at .result)) ≡ getD (pairs (st .args .corners .now)) (st .args .i) origin .y
+  at-i = held (record { sfits = c .before .y-at .ok }) (c .before .y-at .ensures)
+
+  at-first : toZ w64 (ofZ w64 (c .y-at2 .result)) ≡ getD (pairs (st .args .corners .now)) 0 origin .y
+  at-first = held (record { sfits = c .y-at2 .ok }) (c .y-at2 .ensures)
+
+  small : Near (getD (pairs (st .args .corners .now)) (st .args .i) origin) (getD (pairs (st .args .corners .now)) 0 origin)
+  small = st .pre .0 .near (st .args .i) 0 (st .pre .1) (first-in (st .pre .0))
+
+y-at-requires : tie.Need-y-at-requires
+y-at-requires c κs = c .pre .1
+
+y-at-requires-2 : tie.Need-y-at-requires-2
+y-at-requires-2 c κs = first-in (c .before .pre .0)
+
+sub-result : tie.Need-sub-result
+sub-result c = need-diff (at-i c) (at-first c) (small c .y-near) tt
+
+returns : tie.Need-returns
+returns c = v-diff w64 (at-i c) (at-first c) (small c .y-near) tt .is
+
+pub y-from-first-spec : {M : Type 1} → statement M
+y-from-first-spec = tie.close (tie.spec y-at-requires y-at-requires-2 sub-result returns)

@@ -1,0 +1,82 @@
+-- On one line by D, and back by the product. Assumes nothing.
+use mathlib.Core.Path.{_≡_, refl, sym, _∙_, ap}
+use lib.IntN.{ℤ, pos}
+use lib.Signed.{ltZ}
+use Rattle.rules.specs.Rings.{Corner, D}
+use Rattle.ring_corners.specs.Corners.{corner, Near}
+use Rattle.ring_pairs.specs.Crossings.{ahead, RowNear}
+use Rattle.ring_corners.specs.Sides.{sign-of}
+use Rattle.ring_corners.specs.Proofs.Signed.{raw, raw-is}
+use Rattle.ring_pairs.specs.Proofs.Crossings.{straight, not-straight}
+use Rattle.ring_corners.specs.declared.sides.Sign.the-variants.{Positive, Zero, Negative}
+use borrow.Author.Needs.{needs}
+use Rattle.ring_pairs.proofs.meeting.doubles_back.Statement.{statement}
+use Rattle.ring_pairs.proofs.meeting.doubles_back.Tie as tie
+
+-- the corners of the code, and as a call hands them on: e is its c, and f its d
+module _ (st : tie.Start) where
+  abbrev a : Corner
+  a = corner (st .args .ax) (st .args .ay)
+
+  abbrev b : Corner
+  b = corner (st .args .bx) (st .args .by)
+
+  abbrev e : Corner
+  e = corner (st .args .cx) (st .args .cy)
+
+  abbrev a′ : Corner
+  a′ = raw (st .args .ax) (st .args .ay)
+
+  abbrev b′ : Corner
+  b′ = raw (st .args .bx) (st .args .by)
+
+  abbrev e′ : Corner
+  e′ = raw (st .args .cx) (st .args .cy)
+
+  signs : sign-of (D a′ b′ e′) ≡ sign-of (D a b e)
+  signs = rw (raw-is (st .fits .ax) (st .fits .ay), raw-is (st .fits .bx) (st .fits .by), raw-is (st .fits .cx) (st .fits .cy))
+
+  aheads : ltZ (ahead a′ b′ e′) (pos 0) ≡ ltZ (ahead a b e) (pos 0)
+  aheads = rw (raw-is (st .fits .ax) (st .fits .ay), raw-is (st .fits .bx) (st .fits .by), raw-is (st .fits .cx) (st .fits .cy))
+
+  row : RowNear a′ b′ e′
+  row = rw (raw-is (st .fits .ax) (st .fits .ay), raw-is (st .fits .bx) (st .fits .by), raw-is (st .fits .cx) (st .fits .cy)) (st .pre)
+
+near-sign-requires : tie.Need-near-sign-requires
+near-sign-requires c κs = let st = c in rw (raw-is (st .fits .ax) (st .fits .ay), raw-is (st .fits .bx) (st .fits .by), raw-is (st .fits .cx) (st .fits .cy)) (c .pre .b-a, c .pre .c-a)
+
+enum-told : tie.Need-enum-told
+enum-told c = search needs
+
+enum-told-2 : tie.Need-enum-told-2
+enum-told-2 c = search needs
+
+runs-back-requires : tie.Need-runs-back-requires
+runs-back-requires c κs = row (c .before .before .before)
+
+enum-told-3 : tie.Need-enum-told-3
+enum-told-3 c = search needs
+
+returns : tie.Need-returns
+returns c = let st = c .before .before .before in sym (not-straight (a st) (b st) (e st) Positive (sym (c .before .before .near-sign .ensures ∙ signs st) ∙ c .enum-told .given .1) refl)
+
+returns-2 : tie.Need-returns-2
+returns-2 c =
+    let st = c .before .before .before .before in
+    c .runs-back .ensures ∙ aheads st ∙ sym (straight (a st) (b st) (e st) (sym (c .before .before .before .near-sign .ensures ∙ signs st) ∙ c .before .enum-told2 .given .1))
+
+returns-3 : tie.Need-returns-3
+returns-3 c = let st = c .before .before .before in sym (not-straight (a st) (b st) (e st) Negative (sym (c .before .before .near-sign .ensures ∙ signs st) ∙ c .enum-told3 .given .1) refl)
+
+pub doubles-back-spec : {M : Type 1} → statement M
+doubles-back-spec =
+    tie.close
+    (tie.spec
+    near-sign-requires
+    enum-told
+    enum-told-2
+    runs-back-requires
+    enum-told-3
+    returns
+    returns-2
+    returns-3)

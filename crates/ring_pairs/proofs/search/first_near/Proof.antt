@@ -1,0 +1,57 @@
+-- Every edge that was passed has its box away. Assumes nothing.
+use mathlib.Core.Path.{_≡_, sym, _∙_}
+use Prim.Native.Nat.{_+_, _-_, _<_}
+use native.Mathlib.Omega.{arith}
+use mir.Facts.{toZ-ofZ}
+use mir.Syntax.{w64}
+use mir.Val.{toZ, ofZ}
+use Rattle.ring_corners.specs.Corners.{pairs}
+use Rattle.ring_pairs.specs.Crossings.{Skipped}
+use Rattle.ring_pairs.specs.Proofs.Search.{skip-start, skip-step}
+use Rattle.ring_pairs.proofs.search.first_near.Statement.{statement}
+use Rattle.ring_pairs.proofs.search.first_near.Tie as tie
+
+abbrev Inv-loop : tie.InvT-loop
+Inv-loop corners low-x high-x low-y high-y start stop l₀ l = Skipped (pairs corners) (toZ w64 low-x) (toZ w64 high-x) (toZ w64 low-y) (toZ w64 high-y) start stop l
+
+abbrev μ-loop : tie.MeasureT-loop
+μ-loop corners low-x high-x low-y high-y start stop l₀ l = stop - l
+
+loop-holds : tie.Need-loop-holds Inv-loop μ-loop
+loop-holds c = skip-start _ _ _ _ _ _ _ (c .pre .1)
+
+away-from-requires : tie.Need-away-from-requires Inv-loop μ-loop
+away-from-requires c κs =
+    let st = c .before .before in
+    let t = c .loop-test .taken in
+    let s = st .pre .2 in
+    (rw (toZ-ofZ (st .fits .low-x), toZ-ofZ (st .fits .high-x), toZ-ofZ (st .fits .low-y), toZ-ofZ (st .fits .high-y)) (st .pre .0), omega arith)
+
+add-l : tie.Need-add-l Inv-loop μ-loop
+add-l c = let st = c .before .before .before .before in let t = c .before .before .loop-test .taken in let s = st .pre .2 in let m = st .pre .3 in omega arith
+
+loop-less : tie.Need-loop-less Inv-loop μ-loop
+loop-less c = let t = c .before .before .loop-test .taken in omega arith
+
+loop-again : tie.Need-loop-again Inv-loop μ-loop
+loop-again c = skip-step (c .before .before .before .loop .inv) (c .before .before .loop-test .taken) (sym (c .before .away-from .ensures) ∙ c .if1 .taken)
+
+returns : tie.Need-returns Inv-loop μ-loop
+returns c = let st = c .before .before .before .before in rw (toZ-ofZ (st .fits .low-x), toZ-ofZ (st .fits .high-x), toZ-ofZ (st .fits .low-y), toZ-ofZ (st .fits .high-y)) at (c .before .before .before .loop .inv)
+
+returns-2 : tie.Need-returns-2 Inv-loop μ-loop
+returns-2 c = let st = c .before .before in rw (toZ-ofZ (st .fits .low-x), toZ-ofZ (st .fits .high-x), toZ-ofZ (st .fits .low-y), toZ-ofZ (st .fits .high-y)) at (c .before .loop .inv)
+
+pub first-near-spec : {M : Type 1} → statement M
+first-near-spec =
+    tie.close
+    (tie.spec
+    Inv-loop
+    μ-loop
+    loop-holds
+    away-from-requires
+    add-l
+    loop-less
+    loop-again
+    returns
+    returns-2)

@@ -1,0 +1,81 @@
+-- The crossing test as the code makes it: boxes by the smaller and the larger end, and the first edge that makes a pair with a given one. Assumes nothing.
+use mathlib.Core.Path.{_≡_}
+use mathlib.Core.Bool.{Bool, true, false, not, _&&_, _||_}
+use mathlib.Core.Option.{Option, none, some}
+use mathlib.Core.List.{List}
+use Prim.Native.Nat.{ℕ, suc, _+_, _<_, _≤_}
+use lib.Dec.{ltb}
+use lib.IntN.{ℤ, pos, _+ℤ_, _-ℤ_, _*ℤ_}
+use lib.ListN.{length, drop, getD}
+use lib.Signed.{ltZ, _≤ℤ_}
+use Rattle.rules.specs.Rings.{Corner, Edge, _to_, origin, D, isZero, edge, edges, EdgePair}
+use Rattle.rules.specs.RingAnswers.{smaller, larger}
+use Rattle.rules.specs.Crossing.{aside, meets, first-with}
+use Rattle.ring_corners.specs.Corners.{Near}
+
+-- c and d lie both above high, or both below low
+unfoldable pub outside : ℤ → ℤ → ℤ → ℤ → Bool
+outside low high c d = (ltZ high c && ltZ high d) || (ltZ c low && ltZ d low)
+
+-- the box of c-d has no point in common with the box from low to high
+unfoldable pub away : ℤ → ℤ → ℤ → ℤ → Corner → Corner → Bool
+away low-x high-x low-y high-y c d = outside low-x high-x (c .x) (d .x) || outside low-y high-y (c .y) (d .y)
+
+-- the numbers of a box, from the smaller to the larger
+pub record Box (low-x high-x low-y high-y : ℤ) : Type 0 where
+  pub x-order : low-x ≤ℤ high-x
+  pub y-order : low-y ≤ℤ high-y
+
+-- they are those of the edge from corner k to the next
+pub record BoxOf (r : List Corner) (k : ℕ) (low-x high-x low-y high-y : ℤ) : Type 0 where
+  pub low-x-is : low-x ≡ smaller (getD r k origin .x) (getD r (k + 1) origin .x)
+  pub high-x-is : high-x ≡ larger (getD r k origin .x) (getD r (k + 1) origin .x)
+  pub low-y-is : low-y ≡ smaller (getD r k origin .y) (getD r (k + 1) origin .y)
+  pub high-y-is : high-y ≡ larger (getD r k origin .y) (getD r (k + 1) origin .y)
+
+-- l is the first edge from number `start` to before number `stop` whose box is not away, or `stop`
+pub record Skipped (r : List Corner) (low-x high-x low-y high-y : ℤ) (start stop l : ℕ) : Type 0 where
+  pub low : start ≤ l
+  pub high : l ≤ stop
+  pub skipped : (j : ℕ) → start ≤ j → j < l → away low-x high-x low-y high-y (getD r j origin) (getD r (j + 1) origin) ≡ true
+
+-- neither edge lies to one side of the other's line
+unfoldable pub straddle : Corner → Corner → Corner → Corner → Bool
+straddle a b c d = not (aside (D a b c) (D a b d)) && not (aside (D c d a) (D c d b))
+
+-- (b - a)·(c - b): below 0 where the edge b-c runs back
+unfoldable pub ahead : Corner → Corner → Corner → ℤ
+ahead a b c = (b .x -ℤ a .x) *ℤ (c .x -ℤ b .x) +ℤ (b .y -ℤ a .y) *ℤ (c .y -ℤ b .y)
+
+unfoldable pub no-length : Corner → Corner → Bool
+no-length a b = isZero (b .x -ℤ a .x) && isZero (b .y -ℤ a .y)
+
+-- four corners within the span, as the products of the test want them
+pub record AllNear (a b c d : Corner) : Type 0 where
+  pub b-a : Near b a
+  pub c-a : Near c a
+  pub d-a : Near d a
+  pub d-c : Near d c
+  pub a-c : Near a c
+  pub b-c : Near b c
+
+-- three corners in a row
+pub record RowNear (a b c : Corner) : Type 0 where
+  pub b-a : Near b a
+  pub c-a : Near c a
+  pub c-b : Near c b
+
+-- l is the first edge from number `from` to before number `end` that meets edge k, or `end`
+pub record FirstMet (r : List Corner) (k from end l : ℕ) : Type 0 where
+  pub low : from ≤ l
+  pub high : l ≤ end
+  pub met : l < end → meets (getD r k origin to getD r (k + 1) origin) (getD r l origin to getD r (l + 1) origin) ≡ true
+  pub not-before : (j : ℕ) → from ≤ j → j < l → meets (getD r k origin to getD r (k + 1) origin) (getD r j origin to getD r (j + 1) origin) ≡ false
+
+-- the pair k, l; l is the number of edges where there is none
+unfoldable pub pair-at : ℕ → ℕ → ℕ → Option EdgePair
+pair-at n k l = elim (ltb l n) [ true ↦ some (record { low = k; high = l }) | false ↦ none ]
+
+-- the first pair of edge k with a later edge
+unfoldable pub pair-after : List Corner → ℕ → Option EdgePair
+pair-after r k = first-with (length r) k (edge r k) (suc k) (drop (suc k) (edges r))

@@ -1,0 +1,153 @@
+// Whether two edges make a crossed pair. Boxes are compared before anything is multiplied.
+ghost use mathlib.Core.Path.{_≡_};
+ghost use mathlib.Core.Bool.{_&&_, not};
+ghost use lib.Signed.{_≤ℤ_, ltZ};
+ghost use lib.IntN.{pos};
+ghost use Rattle.rules.specs.Rings.{_to_, D, isZero};
+ghost use Rattle.rules.specs.Crossing.{overlap, aside, meets, folds};
+ghost use Rattle.ring_corners.specs.Corners.{corner};
+ghost use Rattle.ring_pairs.specs.Crossings.{outside, straddle, ahead, no-length, AllNear, RowNear};
+use ring_corners::sides;
+use ring_corners::sides::Sign;
+
+// Whether c and d lie both above high, or both below low.
+pub fn beyond(low: i64, high: i64, c: i64, d: i64) -> bool
+    requires { ⌜ low ≤ℤ high ⌝ }
+    ensures { λ r. ⌜ r ≡ outside low high c d ⌝ }
+{
+    if high < c {
+        if high < d {
+            return true;
+        }
+        return false;
+    }
+    if c < low {
+        if d < low {
+            return true;
+        }
+        return false;
+    }
+    false
+}
+
+// Whether a-b and c-d have no number in common.
+fn apart(a: i64, b: i64, c: i64, d: i64) -> bool
+    ensures { λ r. ⌜ r ≡ not (overlap a b c d) ⌝ }
+{
+    beyond(ring_checks::lesser(a, b), ring_checks::greater(a, b), c, d)
+}
+
+// Whether two values of D have one sign, so that both points lie to one side.
+fn one_side(s: i64, t: i64) -> bool
+    ensures { λ r. ⌜ r ≡ aside s t ⌝ }
+{
+    if 0 < s {
+        if 0 < t {
+            return true;
+        }
+        return false;
+    }
+    if s < 0 {
+        if t < 0 {
+            return true;
+        }
+        return false;
+    }
+    false
+}
+
+// Whether c and d lie to one side of the line a-b.
+fn both_aside(ax: i64, ay: i64, bx: i64, by: i64, cx: i64, cy: i64, dx: i64, dy: i64) -> bool
+    requires { ⌜ AllNear (corner ax ay) (corner bx by) (corner cx cy) (corner dx dy) ⌝ }
+    ensures { λ r. ⌜ r ≡ aside (D (corner ax ay) (corner bx by) (corner cx cy)) (D (corner ax ay) (corner bx by) (corner dx dy)) ⌝ }
+{
+    one_side(
+        sides::side(ax, ay, bx, by, cx, cy),
+        sides::side(ax, ay, bx, by, dx, dy),
+    )
+}
+
+fn straddles(ax: i64, ay: i64, bx: i64, by: i64, cx: i64, cy: i64, dx: i64, dy: i64) -> bool
+    requires { ⌜ AllNear (corner ax ay) (corner bx by) (corner cx cy) (corner dx dy) × AllNear (corner cx cy) (corner dx dy) (corner ax ay) (corner bx by) ⌝ }
+    ensures { λ r. ⌜ r ≡ straddle (corner ax ay) (corner bx by) (corner cx cy) (corner dx dy) ⌝ }
+{
+    if both_aside(ax, ay, bx, by, cx, cy, dx, dy) {
+        return false;
+    }
+    if both_aside(cx, cy, dx, dy, ax, ay, bx, by) {
+        return false;
+    }
+    true
+}
+
+// Whether the edges a-b and c-d share a point.
+pub fn meet(ax: i64, ay: i64, bx: i64, by: i64, cx: i64, cy: i64, dx: i64, dy: i64) -> bool
+    requires { ⌜ AllNear (corner ax ay) (corner bx by) (corner cx cy) (corner dx dy) × AllNear (corner cx cy) (corner dx dy) (corner ax ay) (corner bx by) ⌝ }
+    ensures { λ r. ⌜ r ≡ meets (corner ax ay to corner bx by) (corner cx cy to corner dx dy) ⌝ }
+{
+    if apart(ax, bx, cx, dx) {
+        return false;
+    }
+    if apart(ay, by, cy, dy) {
+        return false;
+    }
+    straddles(ax, ay, bx, by, cx, cy, dx, dy)
+}
+
+fn same(ax: i64, ay: i64, bx: i64, by: i64) -> bool
+    ensures { λ r. ⌜ r ≡ no-length (corner ax ay) (corner bx by) ⌝ }
+{
+    if ax < bx {
+        return false;
+    }
+    if bx < ax {
+        return false;
+    }
+    if ay < by {
+        return false;
+    }
+    if by < ay {
+        return false;
+    }
+    true
+}
+
+fn onward(ax: i64, ay: i64, bx: i64, by: i64, cx: i64, cy: i64) -> i64
+    requires { ⌜ RowNear (corner ax ay) (corner bx by) (corner cx cy) ⌝ }
+    ensures { λ r. ⌜ r ≡ ahead (corner ax ay) (corner bx by) (corner cx cy) ⌝ }
+{
+    (bx - ax) * (cx - bx) + (by - ay) * (cy - by)
+}
+
+fn runs_back(ax: i64, ay: i64, bx: i64, by: i64, cx: i64, cy: i64) -> bool
+    requires { ⌜ RowNear (corner ax ay) (corner bx by) (corner cx cy) ⌝ }
+    ensures { λ r. ⌜ r ≡ ltZ (ahead (corner ax ay) (corner bx by) (corner cx cy)) (pos 0) ⌝ }
+{
+    if onward(ax, ay, bx, by, cx, cy) < 0 {
+        return true;
+    }
+    false
+}
+
+// Whether b-c lies on the line a-b and runs back on it.
+fn doubles_back(ax: i64, ay: i64, bx: i64, by: i64, cx: i64, cy: i64) -> bool
+    requires { ⌜ RowNear (corner ax ay) (corner bx by) (corner cx cy) ⌝ }
+    ensures { λ r. ⌜ r ≡ (isZero (D (corner ax ay) (corner bx by) (corner cx cy)) && ltZ (ahead (corner ax ay) (corner bx by) (corner cx cy)) (pos 0)) ⌝ }
+{
+    match sides::near_sign(ax, ay, bx, by, cx, cy) {
+        Sign::Positive => false,
+        Sign::Zero => runs_back(ax, ay, bx, by, cx, cy),
+        Sign::Negative => false,
+    }
+}
+
+// Whether the edge a-b and the edge b-c after it share more than b, or a-b has no length.
+pub fn fold(ax: i64, ay: i64, bx: i64, by: i64, cx: i64, cy: i64) -> bool
+    requires { ⌜ RowNear (corner ax ay) (corner bx by) (corner cx cy) ⌝ }
+    ensures { λ r. ⌜ r ≡ folds (corner ax ay to corner bx by) (corner bx by to corner cx cy) ⌝ }
+{
+    if same(ax, ay, bx, by) {
+        return true;
+    }
+    doubles_back(ax, ay, bx, by, cx, cy)
+}

@@ -1,0 +1,171 @@
+// The first edge after a given one that makes a crossed pair with it. The loop runs over the edges that are no neighbours, and whose head is the next corner; the
+// neighbour and the last edge, which runs to the first corner, are tested beside it.
+ghost use mathlib.Core.Path.{_≡_};
+ghost use Prim.Native.Nat.{_+_, _<_, _≤_};
+ghost use lib.ListN.{length, getD};
+ghost use Rattle.rules.specs.Rings.{_to_, origin};
+ghost use Rattle.rules.specs.Crossing.{meets, folds};
+ghost use Rattle.ring_corners.specs.Corners.{pairs, Accepted};
+ghost use Rattle.ring_pairs.specs.Crossings.{away, Box, BoxOf, Skipped, FirstMet, pair-at, pair-after};
+use crate::meeting;
+use ring_corners::corners;
+
+// Whether the edges from corner i to j and from corner k to l share a point.
+fn meet_at(corners: &[i64], i: usize, j: usize, k: usize, l: usize) -> bool
+    requires { ⌜ Accepted (now corners) × (i < length (pairs (now corners))) × (j < length (pairs (now corners))) × (k < length (pairs (now corners))) × (l < length (pairs (now corners))) ⌝ }
+    ensures { λ r. ⌜ r ≡ meets (getD (pairs (now (corners .entry))) i origin to getD (pairs (now (corners .entry))) j origin) (getD (pairs (now (corners .entry))) k origin to getD (pairs (now (corners .entry))) l origin) ⌝ }
+{
+    let ax = corners::x_at(corners, i);
+    let ay = corners::y_at(corners, i);
+    let bx = corners::x_at(corners, j);
+    let by = corners::y_at(corners, j);
+    let cx = corners::x_at(corners, k);
+    let cy = corners::y_at(corners, k);
+    let dx = corners::x_at(corners, l);
+    let dy = corners::y_at(corners, l);
+    meeting::meet(ax, ay, bx, by, cx, cy, dx, dy)
+}
+
+// Whether the edge from corner i to j and the edge from corner j to k make a pair.
+fn fold_at(corners: &[i64], i: usize, j: usize, k: usize) -> bool
+    requires { ⌜ Accepted (now corners) × (i < length (pairs (now corners))) × (j < length (pairs (now corners))) × (k < length (pairs (now corners))) ⌝ }
+    ensures { λ r. ⌜ r ≡ folds (getD (pairs (now (corners .entry))) i origin to getD (pairs (now (corners .entry))) j origin) (getD (pairs (now (corners .entry))) j origin to getD (pairs (now (corners .entry))) k origin) ⌝ }
+{
+    let ax = corners::x_at(corners, i);
+    let ay = corners::y_at(corners, i);
+    let bx = corners::x_at(corners, j);
+    let by = corners::y_at(corners, j);
+    let cx = corners::x_at(corners, k);
+    let cy = corners::y_at(corners, k);
+    meeting::fold(ax, ay, bx, by, cx, cy)
+}
+
+// Whether the box of edge l has no point in common with the box from low to high.
+fn away_from(corners: &[i64], low_x: i64, high_x: i64, low_y: i64, high_y: i64, l: usize) -> bool
+    requires { ⌜ Box «low_x» «high_x» «low_y» «high_y» × (l + 1 < length (pairs (now corners))) ⌝ }
+    ensures { λ r. ⌜ r ≡ away «low_x» «high_x» «low_y» «high_y» (getD (pairs (now (corners .entry))) l origin) (getD (pairs (now (corners .entry))) (l + 1) origin) ⌝ }
+{
+    if meeting::beyond(
+        low_x,
+        high_x,
+        corners::x_at(corners, l),
+        corners::x_at(corners, l + 1),
+    ) {
+        return true;
+    }
+    meeting::beyond(
+        low_y,
+        high_y,
+        corners::y_at(corners, l),
+        corners::y_at(corners, l + 1),
+    )
+}
+
+// The first edge from number `start` to before number `stop` whose box is not away, or `stop`. Most pairs of edges end here, and nothing was multiplied.
+fn first_near(
+    corners: &[i64],
+    low_x: i64,
+    high_x: i64,
+    low_y: i64,
+    high_y: i64,
+    start: usize,
+    stop: usize,
+) -> usize
+    requires { ⌜ Box «low_x» «high_x» «low_y» «high_y» × (start ≤ stop) × (stop < length (pairs (now corners))) × (length (pairs (now corners)) ≤ 1024) ⌝ }
+    ensures { λ r. ⌜ Skipped (pairs (now (corners .entry))) «low_x» «high_x» «low_y» «high_y» start stop r ⌝ }
+{
+    let mut l = start;
+    while l < stop {
+        if away_from(corners, low_x, high_x, low_y, high_y, l) {
+            l += 1;
+        } else {
+            return l;
+        }
+    }
+    l
+}
+
+// The first edge from number `start` to before number `stop` that meets edge k, whose box is from low to high; or `stop`.
+fn first_met_by(
+    corners: &[i64],
+    k: usize,
+    low_x: i64,
+    high_x: i64,
+    low_y: i64,
+    high_y: i64,
+    start: usize,
+    stop: usize,
+) -> usize
+    requires { ⌜ Accepted (now corners) × (k + 1 < length (pairs (now corners))) × (start ≤ stop) × (stop < length (pairs (now corners))) × BoxOf (pairs (now corners)) k «low_x» «high_x» «low_y» «high_y» ⌝ }
+    ensures { λ r. ⌜ FirstMet (pairs (now (corners .entry))) k start stop r ⌝ }
+{
+    let mut l = first_near(corners, low_x, high_x, low_y, high_y, start, stop);
+    while l < stop {
+        if meet_at(corners, k, k + 1, l, l + 1) {
+            return l;
+        }
+        l = first_near(corners, low_x, high_x, low_y, high_y, l + 1, stop);
+    }
+    l
+}
+
+fn first_met(corners: &[i64], k: usize, start: usize, stop: usize) -> usize
+    requires { ⌜ Accepted (now corners) × (k + 1 < length (pairs (now corners))) × (start ≤ stop) × (stop < length (pairs (now corners))) ⌝ }
+    ensures { λ r. ⌜ FirstMet (pairs (now (corners .entry))) k start stop r ⌝ }
+{
+    let ax = corners::x_at(corners, k);
+    let ay = corners::y_at(corners, k);
+    let bx = corners::x_at(corners, k + 1);
+    let by = corners::y_at(corners, k + 1);
+    let low_x = ring_checks::lesser(ax, bx);
+    let high_x = ring_checks::greater(ax, bx);
+    let low_y = ring_checks::lesser(ay, by);
+    let high_y = ring_checks::greater(ay, by);
+    first_met_by(corners, k, low_x, high_x, low_y, high_y, start, stop)
+}
+
+// The first edge after k that makes a pair with it, or the number of edges; edge k + 1 is not the last.
+fn after(corners: &[i64], k: usize, last: usize) -> usize
+    requires { ⌜ Accepted (now corners) × (last + 1 ≡ length (pairs (now corners))) × (k + 1 < last) ⌝ }
+    ensures { λ r. ⌜ pair-at (length (pairs (now (corners .entry)))) k r ≡ pair-after (pairs (now (corners .entry))) k ⌝ }
+{
+    if fold_at(corners, k, k + 1, k + 2) {
+        return k + 1;
+    }
+    let l = first_met(corners, k, k + 2, last);
+    if l < last {
+        return l;
+    }
+    if k == 0 {
+        if fold_at(corners, last, 0, 1) {
+            return last;
+        }
+        return last + 1;
+    }
+    if meet_at(corners, k, k + 1, last, 0) {
+        return last;
+    }
+    last + 1
+}
+
+// The same where edge k + 1 is the last.
+fn before_last(corners: &[i64], k: usize, last: usize) -> usize
+    requires { ⌜ Accepted (now corners) × (last + 1 ≡ length (pairs (now corners))) × (k + 1 ≡ last) ⌝ }
+    ensures { λ r. ⌜ pair-at (length (pairs (now (corners .entry)))) k r ≡ pair-after (pairs (now (corners .entry))) k ⌝ }
+{
+    if fold_at(corners, k, last, 0) {
+        return last;
+    }
+    last + 1
+}
+
+// The same for any edge but the last.
+pub fn later(corners: &[i64], k: usize, last: usize) -> usize
+    requires { ⌜ Accepted (now corners) × (last + 1 ≡ length (pairs (now corners))) × (k < last) ⌝ }
+    ensures { λ r. ⌜ pair-at (length (pairs (now (corners .entry)))) k r ≡ pair-after (pairs (now (corners .entry))) k ⌝ }
+{
+    if k + 1 < last {
+        return after(corners, k, last);
+    }
+    before_last(corners, k, last)
+}

@@ -1,0 +1,77 @@
+-- No edge that was passed makes a pair with a later one. Assumes nothing.
+use mathlib.Core.Path.{_≡_}
+use Prim.Native.Nat.{_+_, _-_, _/_, _≤_}
+use native.Mathlib.Omega.{arith}
+use lib.ListN.{length}
+use Rattle.ring_corners.specs.Corners.{pairs}
+use Rattle.ring_corners.specs.Proofs.Flat.{first-in, half}
+use Rattle.rings.specs.Proofs.Crossed.{Searched, searched-start, searched-hit, searched-miss, searched-end}
+use Rattle.rings.proofs.crossed.first_pair.Statement.{statement}
+use Rattle.rings.proofs.crossed.first_pair.Tie as tie
+
+abbrev Inv-loop : tie.InvT-loop
+Inv-loop corners last k₀ k = Searched (pairs corners) k × (k ≤ last)
+
+abbrev μ-loop : tie.MeasureT-loop
+μ-loop corners last k₀ k = last - k
+
+count : (st : tie.Start Inv-loop μ-loop) → length (st .args .corners .now) / 2 - 1 + 1 ≡ length (pairs (st .args .corners .now))
+count st = let e = half (st .pre) in let h = first-in (st .pre) in omega arith
+
+sub-last : tie.Need-sub-last Inv-loop μ-loop
+sub-last c = let e = half (c .pre) in let h = first-in (c .pre) in omega arith
+
+loop-holds : tie.Need-loop-holds Inv-loop μ-loop
+loop-holds c = (searched-start (pairs (c .args .corners .now)), omega arith)
+
+later-requires : tie.Need-later-requires Inv-loop μ-loop
+later-requires c κs = (c .before .before .pre, count (c .before .before), c .loop-test .taken)
+
+returns : tie.Need-returns Inv-loop μ-loop
+returns c =
+    let st = c .before .before .before .before in
+    let n = count st in
+    let t = c .before .before .loop-test .taken in
+    let l = c .if1 .taken in
+    searched-hit (c .before .before .before .loop .inv .0) (c .before .later .result) (omega arith) (omega arith) (c .before .later .ensures)
+
+add-k : tie.Need-add-k Inv-loop μ-loop
+add-k c =
+    let n = count (c .before .before .before .before) in
+    let m = c .before .before .before .before .pre .at-most in
+    let t = c .before .before .loop-test .taken in
+    omega arith
+
+loop-less : tie.Need-loop-less Inv-loop μ-loop
+loop-less c = let t = c .before .before .loop-test .taken in omega arith
+
+loop-again : tie.Need-loop-again Inv-loop μ-loop
+loop-again c =
+    let st = c .before .before .before .before in
+    let n = count st in
+    let t = c .before .before .loop-test .taken in
+    let l = c .if1 .left in
+    (searched-miss (c .before .before .before .loop .inv .0) (c .before .later .result) (omega arith) (omega arith) (c .before .later .ensures), omega arith)
+
+returns-2 : tie.Need-returns-2 Inv-loop μ-loop
+returns-2 c =
+    let st = c .before .before in
+    let n = count st in
+    let t = c .loop-test .left in
+    let h = c .before .loop .inv .1 in
+    searched-end (c .before .loop .inv .0) (omega arith)
+
+pub first-pair-spec : {M : Type 1} → statement M
+first-pair-spec =
+    tie.close
+    (tie.spec
+    Inv-loop
+    μ-loop
+    sub-last
+    loop-holds
+    later-requires
+    returns
+    add-k
+    loop-less
+    loop-again
+    returns-2)
