@@ -1,5 +1,6 @@
-// Times the forward projection beside PROJ in one run: X and Y alone, and X, Y, scale and convergence in one call, against proj_trans with `tmerc` (default and
-// +approx) and proj_factors for scale and convergence. X and Y are compared before anything is timed.
+// Times the forward projection beside PROJ's `tmerc`, default and +approx, in one run: X and Y alone beside proj_trans, and X, Y, scale and convergence in one call
+// beside proj_trans with proj_factors. All answers are compared with both forms of the peer before anything is timed.
+#include "lists.h"
 #include "systems.h"
 
 struct Four {
@@ -15,36 +16,48 @@ Four bench_forward(uint8_t code, int64_t b, int64_t l);
 Two bench_forward_plane(uint8_t code, int64_t b, int64_t l);
 }
 
-static const int COUNT = 4096;
-
-static void row(const System &system) {
-    std::vector<Ticks> at = points_of(system, COUNT);
-    PJ *exact = made(system.text()), *approx = made(system.text("+approx"));
-    std::vector<PJ_COORD> radians;
-    for (const Ticks &point : at) radians.push_back(proj_coord(point.l * TICK, point.b * TICK, 0, 0));
+// Within 0.7 of each unit, which is our rounding and a little. The paper's scale is that of the Gauss-Krüger plane, before m0; PROJ's has m0 in it.
+static void compare(const System &system, const std::vector<Ticks> &at, PJ *peer, const std::vector<PJ_COORD> &radians) {
     for (int k = 0; k < COUNT; k++) {
         Four answer = bench_forward(system.code, at[k].b, at[k].l);
         Two alone = bench_forward_plane(system.code, at[k].b, at[k].l);
-        PJ_COORD plane = proj_trans(exact, PJ_FWD, radians[k]);
+        must(answer.refused == 0 && alone.refused == 0, "a point is refused");
         must(alone.x == answer.x && alone.y == answer.y, "the two forward calls differ");
-        must(answer.refused == 0, "a point is refused");
+        PJ_COORD plane = proj_trans(peer, PJ_FWD, radians[k]);
         must(fabs(plane.xy.y * 1000 - answer.x) < 0.7 && fabs(plane.xy.x * 1000 - answer.y) < 0.7, "a point differs from PROJ by more than 0.7 mm");
+        PJ_FACTORS factors = proj_factors(peer, radians[k]);
+        must(fabs(factors.meridional_scale / system.m0 * 1e9 - answer.scale) < 0.7, "a scale differs from PROJ");
+        must(fabs(factors.meridian_convergence / TICK / 1000 - answer.convergence) < 0.7, "a convergence differs from PROJ");
     }
-    auto times = together(
-        work(COUNT, [&](long k) { return bench_forward_plane(system.code, at[k].b, at[k].l).x; }),
-        work(COUNT, [&](long k) { return bench_forward(system.code, at[k].b, at[k].l).x; }),
-        work(COUNT, [&](long k) { return (int64_t)proj_trans(exact, PJ_FWD, radians[k]).xy.x; }),
-        work(COUNT, [&](long k) { return (int64_t)proj_trans(approx, PJ_FWD, radians[k]).xy.x; }),
-        work(COUNT, [&](long k) { return (int64_t)(proj_factors(exact, radians[k]).meridional_scale * 1e9); }));
-    double alone = times[0], all = times[1], plain = times[2], quick = times[3], factors = times[4];
-    printf("%4d   %8.1f %8.1f   %8.1f %8.1f %8.1f   %8.2f %10.2f %10.2f\n", system.code, alone, all, plain, quick, factors, alone / plain, alone / quick,
-           all / (plain + factors));
+}
+
+static int64_t peer_plane(PJ *peer, const PJ_COORD &radians) { return (int64_t)proj_trans(peer, PJ_FWD, radians).xy.x; }
+
+static int64_t peer_four(PJ *peer, const PJ_COORD &radians) {
+    return peer_plane(peer, radians) + (int64_t)(proj_factors(peer, radians).meridional_scale * 1e9);
+}
+
+static void time(const System &system, Lists &plane, Lists &four) {
+    std::vector<Ticks> at = points_of(system, COUNT);
+    std::vector<PJ_COORD> radians;
+    for (const Ticks &point : at) radians.push_back(proj_coord(point.l * TICK, point.b * TICK, 0, 0));
+    PJ *exact = made(system.text()), *approx = made(system.text("+approx"));
+    compare(system, at, exact, radians);
+    compare(system, at, approx, radians);
+    plane.time([&](long k) { return bench_forward_plane(system.code, at[k].b, at[k].l).x; },
+               [&](long k) { return peer_plane(exact, radians[k]); },
+               [&](long k) { return peer_plane(approx, radians[k]); });
+    four.time([&](long k) { return bench_forward(system.code, at[k].b, at[k].l).x; },
+              [&](long k) { return peer_four(exact, radians[k]); },
+              [&](long k) { return peer_four(approx, radians[k]); });
     proj_destroy(exact);
     proj_destroy(approx);
 }
 
 int main() {
-    printf("\nForward, nanoseconds for each point\n");
-    printf("code       X, Y all four       PROJ  +approx  factors   X,Y/PROJ X,Y/+approx four/(PROJ + factors)\n");
-    for (const System &system : SYSTEMS) row(system);
+    about(std::string("PROJ ") + proj_info().version);
+    Lists plane, four;
+    for (const System &system : SYSTEMS) time(system, plane, four);
+    plane.print("forward, X and Y", "PROJ", "`+approx`");
+    four.print("forward, all four answers", "PROJ and its factors", "`+approx` and its factors");
 }

@@ -1,10 +1,10 @@
 #!/usr/bin/env python3
-"""Times the field program: records for each second, by kind of record and by the ring's corners.
+"""Times the field program: records a second, by kind of record, by the ring's corners and by the file's length, as rows for bench/table.py.
 
-    python3 bench/job.py
+    bench/run job
 
-Builds the program where something has changed. A run's time has the start of the process and the reading of standard input in it; the start alone (an empty job) is
-printed first. On x86-64 what is timed is the proved program; on another processor it would be the emulator, so this refuses to run there.
+Builds the program where something has changed. A run's time has the start of the process and the reading of standard input in it; the start alone (an empty job)
+is a row of its own. On x86-64 what is timed is the proved program; on another processor it would be the emulator, so this refuses to run there.
 Assumes the kit's `rt`, Python 3.9 or newer and its standard library.
 """
 
@@ -17,7 +17,7 @@ import sys
 import time
 
 ROOT = os.path.dirname(os.path.dirname(os.path.abspath(__file__)))
-RUNS = 5
+RUNS = 3
 
 
 def command():
@@ -54,22 +54,24 @@ def points(count):
     return b"".join(struct.pack("<BB2q", 5, 3, (180_000 + k % 18_000) * 1_000_000, 65_000_000_000 + k * 100) for k in range(count))
 
 
-def show(program, name, records, job):
+def show(program, name, size, unit, records, job):
+    """A row for a job of so many records, which must all have been taken."""
     took, last = seconds(program, job)
     if last != "end %d" % records:
         sys.exit("bench/job.py: %s ended with %r, not with its %d records" % (name, last, records))
-    print("%-36s %9d records %8.1f ms %12.0f records a second" % (name, records, took * 1e3, records / took))
+    print("rate", "job, " + name, size, unit, records / took, sep="\t")
 
 
 def main():
     program = command()
-    print("start of the process: %.1f ms" % (seconds(program, b"")[0] * 1e3))
+    print("time", "job, empty file", 0, "records", seconds(program, b"")[0] * 1e9, sep="\t")
     for corners in (16, 64, 256, 1024):
         rings = 65_536 // corners
-        show(program, "rings of %d corners" % corners, rings * (corners + 2), ring(corners) * rings)
+        show(program, "rings", corners, "corners", rings * (corners + 2), ring(corners) * rings)
     for corners in (16, 64, 256, 1024):
-        show(program, "nozzle queries, ring of %d" % corners, corners + 2 + 50_000, ring(corners) + nozzles(50_000))
-    show(program, "points to the plane", 100_000, points(100_000))
+        show(program, "nozzle queries", corners, "corners", corners + 2 + 50_000, ring(corners) + nozzles(50_000))
+    for records in (1_000, 10_000, 100_000):
+        show(program, "points to the plane", records, "records", records, points(records))
 
 
 main()

@@ -3,10 +3,10 @@
 #include <proj.h>
 
 #include <cmath>
-#include <cstdlib>
 #include <string>
 #include <vector>
 
+#include "report.h"
 #include "timing.h"
 
 static const double TICK = M_PI / 648000000000.0;
@@ -45,12 +45,6 @@ static std::vector<Ticks> points_of(const System &system, int count) {
         made.push_back({random.between(172900000000, 201500000000), llround((system.meridian + d) * 3600000000.0)});
     }
     return made;
-}
-
-static void must(bool held, const char *what) {
-    if (held) return;
-    fprintf(stderr, "bench: %s\n", what);
-    exit(1);
 }
 
 static PJ *made(const std::string &text) {
