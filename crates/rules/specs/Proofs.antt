@@ -1,9 +1,9 @@
 -- What is proved of the rules; not needed to read them.
 -- Codes: refusal 1 is "code not 1-14". Checks: each test fails exactly where the paper's words hold; the checks in order, as equations.
--- Nine: the same of a ring, 6 (odd length), 7 and 9.
+-- RingChecks: the same of a ring, 6 (odd length), 7 and 9.
 -- Root, Nearest: the square root is the whole-number one; products and quotients are floors; the rounding is the nearest, ties to even, and the only one.
--- Near: what the definition itself answers is right. Meridian: d = 0 gives Y = y0. Job: no bound on recursion is felt; the job record by record; decimal digits; signed numbers.
--- Z, Sums, Lines, Same: demand 3. Edges: edge k. Cross, Fold, Pairs: the crossing test answers by the rule.
+-- OwnAnswers: what the definition itself answers is right. Meridian: d = 0 gives Y = y0. Job: no bound on recursion is felt; the job record by record; decimal digits; signed numbers.
+-- Signs, Sums, Lines, SameTurning: demand 3. Edges: edge k. Meeting, Folding, Pairs: the crossing test answers by the rule.
 pub mod Codes
 pub mod Checks
 pub mod RingChecks

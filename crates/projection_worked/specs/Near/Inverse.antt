@@ -12,6 +12,7 @@ use Rattle.rules.specs.Systems.{System, system, constants, b-coefficients}
 use Rattle.rules.specs.Scaled.{unit, polynomial}
 use Rattle.rules.specs.Scaled as scaled
 use Rattle.rules.specs.Rounding.{Within}
+use Rattle.rules.specs.Proofs.OwnAnswers.{wider}
 use Rattle.rules.specs.Projection as Unrounded
 use Rattle.rules.specs.Points.{offset-X, offset-Y, plane-bad, inverse-checks, judged, Near-inverse, Right-inverse, Right-inverse-by}
 use Rattle.double.specs.declared.Pair.{Pair}
@@ -24,13 +25,6 @@ use Rattle.projection_worked.specs.Near.InverseUndone.{defined-length}
 use Rattle.projection_worked.specs.Near.InverseRange.{box-placed}
 use Rattle.projection_worked.specs.Near.InverseBox.{Millionths, system-millionths, north-is, boxed}
 use Rattle.projection_worked.specs.Near.InverseTicks.{defined-pair, side-of, mercator, turned-both}
-
--- 0.52 is within 0.6
-wider : {r w : ℤ} → Within 52 r w → Within 60 r w
-wider {r} {w} h = record { bound = go (natAbs (r *ℤ pos unit -ℤ w)) unit (h .bound) }
-  where
-    go : (n u : ℕ) → 100 * n ≤ 52 * u → 100 * n ≤ 60 * u
-    go n u h = omega arith
 
 -- ---- a point of a system that passes refusal 4
 module _ (s : System) (m : Millionths s (millionths-of s)) (X Y : ℤ) (p : plane-bad s X Y ≡ false) where
@@ -67,7 +61,7 @@ module _ (s : System) (m : Millionths s (millionths-of s)) (X Y : ℤ) (p : plan
 
   pub ticks-near : Near-inverse s (Unrounded.inverse s X Y) (worked-ticks s X Y)
   unfolding worked-ticks
-  ticks-near = subst (λ v. Near-inverse s v (worked-ticks s X Y)) (sym same-definition) (record { B = wider B-near; L = wider (subst (λ r. Within 52 r (definition (s .ellipsoid) (defined .first) (defined .second) .d)) (sym (less (s .L0) (difference-from (s .ellipsoid) (below-zero b) p-of))) L-near) })
+  ticks-near = subst (λ v. Near-inverse s v (worked-ticks s X Y)) (sym same-definition) (record { B = wider 60 tt B-near; L = wider 60 tt (subst (λ r. Within 52 r (definition (s .ellipsoid) (defined .first) (defined .second) .d)) (sym (less (s .L0) (difference-from (s .ellipsoid) (below-zero b) p-of))) L-near) })
     where
       less : (a d : ℤ) → a +ℤ d -ℤ a ≡ d
       less a d = ring (a ∷ d ∷ []) λ ρ ea ed. simp (Z·ring, ea, ed) (by-ring _ _ _ refl)

@@ -13,6 +13,7 @@ use Rattle.rules.specs.Systems.{_/10^_, System, system, constants, a-coefficien
 use Rattle.rules.specs.Scaled.{unit, product, radians, sine, cosine, turned-to, polynomial, derivative}
 use Rattle.rules.specs.Scaled as scaled
 use Rattle.rules.specs.Rounding.{Within}
+use Rattle.rules.specs.Proofs.OwnAnswers.{wider}
 use Rattle.rules.specs.Projection as Unrounded
 use Rattle.rules.specs.Points.{Point, offset-X, offset-Y, latitude-bad, longitude-bad, forward-checks, Near-forward, Right-forward, Right-forward-by}
 use Rattle.rules.specs.Proofs.Checks.{longitude-exact}
@@ -27,13 +28,6 @@ use Rattle.projection_worked.specs.Near.Forward.{X-near, Y-near}
 use Rattle.projection_worked.specs.Near.Derivative.{first-fixed, slope-fixed, slope-sided, other}
 use Rattle.projection_worked.specs.Near.Finite.{latitude-taken, finite-taken}
 use Rattle.projection_worked.specs.Near.InverseBox.{Millionths, system-millionths, system-narrow}
-
--- 0.51 is within 0.6
-wider : {r w : ℤ} → Within 51 r w → Within 60 r w
-wider {r} {w} h = record { bound = go (natAbs (r *ℤ pos unit -ℤ w)) unit (h .bound) }
-  where
-    go : (n u : ℕ) → 100 * n ≤ 51 * u → 100 * n ≤ 60 * u
-    go n u h = omega arith
 
 less-offset : (a d : ℤ) → a +ℤ d -ℤ a ≡ d
 less-offset a d = ring (a ∷ d ∷ []) λ ρ ea ed. simp (Z·ring, ea, ed) (by-ring _ _ _ refl)
@@ -85,7 +79,7 @@ module _ (s : System) (m : Millionths s (millionths-of s)) (B L : ℤ) (h : lati
 
   pub point-near : Near-forward s (Unrounded.forward s B L) (worked-point s B d)
   unfolding worked-point
-  point-near = subst (λ v. Near-forward s v (worked-point s B d)) (sym same-definition) (record { X = wider X-right; Y = wider Y-right; scale = wider scale-right; convergence = wider convergence-right })
+  point-near = subst (λ v. Near-forward s v (worked-point s B d)) (sym same-definition) (record { X = wider 60 tt X-right; Y = wider 60 tt Y-right; scale = wider 60 tt scale-right; convergence = wider 60 tt convergence-right })
 
 -- ---- what an answer of the checks says
 passed-3 : (a : Answer System) (f : Bool) (s : System) (B L : ℤ)
