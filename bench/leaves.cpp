@@ -1,25 +1,24 @@
 // Times each leaf of the fixed-point arithmetic beside the C prototype's formula for it, in one run, both through a call: beside the prototype as it is, whose
 // products are by halves of 30 bits, and beside the same with 128-bit products. Answers are compared before anything is timed: exactly where the formula is the
 // same, else within the units of 2^-60 (or of the answer) said in the leaf's row. `print` prints arguments and answers instead, one call to a line, for
-// reference/leaves.py.
+// reference/worked_against_code.py.
 #include "leaves_prototype.h"
 
-#include <cstdlib>
 #include <cstring>
 #include <tuple>
 
+#include "report.h"
 #include "timing.h"
 
 extern "C" {
 u64 leaf_mul60(u64, u64);
 u64 leaf_quot60(u64, u64);
-u64 leaf_rad60(u64);
 Two leaf_tilt60(u64, u64);
 Two leaf_latitude60(u64);
 Two leaf_longitude60(u64);
-u64 leaf_k60(u64, u64);
+u64 leaf_k60(bool, u64);
 Two leaf_halves60(u64, u64);
-Sphere leaf_sphere60(u64, u64, u64);
+Sphere leaf_sphere60(bool, u64, u64);
 u64 leaf_across60(Sphere);
 u64 leaf_east30(u64, u64);
 i64 leaf_north30(u64, u64, Sphere);
@@ -77,7 +76,7 @@ static i64 sum(const Sphere &a) { return (i64)(a.t + a.c + a.sd + a.cd + a.k + a
 // ---- arguments: points of either ellipsoid and what the leaves make of them
 struct Point {
     bool krasovsky;
-    u64 n, d, e, square, ratio, radius, centre, shortened, across, turn, first, slope, rho, scale;
+    u64 n, d, square, ratio, radius, centre, shortened, across, turn, first, slope, rho, scale;
     i64 convergence;
     Sphere sphere;
     u64 a, b, quotient;
@@ -88,9 +87,9 @@ static u64 below(Random &random, u64 limit) { return (u64)((double)limit * rando
 
 static void forward_part(Point &at, Random &random) {
     at.n = random.between(172800000000, 201600000000), at.d = random.between(0, 19800000000);
-    at.e = E[at.krasovsky], at.square = E_SQUARE[at.krasovsky], at.ratio = RATIO[at.krasovsky];
+    at.square = E_SQUARE[at.krasovsky], at.ratio = RATIO[at.krasovsky];
     at.radius = RADIUS[at.krasovsky], at.centre = CENTRE[at.krasovsky];
-    at.sphere = leaf_sphere60(at.e, at.n, at.d);
+    at.sphere = leaf_sphere60(at.krasovsky, at.n, at.d);
     at.shortened = Plain::mul60(at.square, Plain::mul60(at.sphere.t, at.sphere.t));
     at.across = leaf_across60(at.sphere), at.turn = leaf_turn60(at.sphere);
     at.first = (u64)(0.99937 * ONE) + below(random, (u64)(0.00046 * ONE)), at.slope = below(random, (u64)(0.00021 * ONE));
@@ -125,7 +124,6 @@ static std::vector<Point> points(int count) {
 // ---- a leaf: named, said, and judged
 static std::vector<Point> at;
 static bool printing;
-static double worst;
 
 template <class... Words>
 static void print_numbers(const Words &...words) {
@@ -136,15 +134,14 @@ static void print_numbers(const Words &...words) {
         ...);
 }
 
+template <class Ours, class... Words>
+static void print_call(const char *name, Ours ours, const Words &...words) {
+    printf("%s", name), print_numbers(words...), printf(" ="), print_numbers(ours(words...)), printf("\n");
+}
+
 template <class Ours, class Arguments>
 static void print_leaf(const char *name, Ours ours, Arguments arguments) {
-    for (const Point &point : at) {
-        printf("%s", name);
-        std::apply([](const auto &...words) { print_numbers(words...); }, arguments(point));
-        printf(" =");
-        print_numbers(std::apply(ours, arguments(point)));
-        printf("\n");
-    }
+    for (const Point &point : at) std::apply([=](const auto &...words) { print_call(name, ours, words...); }, arguments(point));
 }
 
 template <class Answer>
@@ -164,12 +161,6 @@ static auto timed(Function function, Arguments arguments) {
     return work((long)TURNS * COUNT, [=](long k) { return sum(std::apply(function, arguments(at[k % COUNT]))); });
 }
 
-static void say(const char *words, double ours, double plain, double broad) {
-    worst = std::max(worst, ours / plain);
-    printf("%-44s %8.1f   %8.1f %8.2f%s   %8.1f %8.2f%s\n", words, ours, plain, ours / plain, ours > 2 * plain ? " *" : "  ", broad, ours / broad,
-           ours > 2 * broad ? " *" : "  ");
-}
-
 // `theirs` are the arguments of the prototype's leaf, where it takes others than ours.
 template <class Ours, class Peer, class Arguments, class Theirs>
 static void leaf(const char *name, const char *words, i64 tolerance, Ours ours, Peer plain, Peer broad, Arguments arguments, Theirs theirs) {
@@ -178,12 +169,8 @@ static void leaf(const char *name, const char *words, i64 tolerance, Ours ours, 
         compare(name, tolerance, std::apply(ours, arguments(point)), std::apply(plain, theirs(point)));
         compare(name, tolerance, std::apply(ours, arguments(point)), std::apply(broad, theirs(point)));
     }
-    double best[3] = {1e300, 1e300, 1e300};
-    for (int round = 0; round < 3; round++) {
-        auto times = together(timed(ours, arguments), timed(plain, theirs), timed(broad, theirs));
-        for (int k = 0; k < 3; k++) best[k] = std::min(best[k], times[k]);
-    }
-    say(words, best[0], best[1], best[2]);
+    auto times = together(timed(ours, arguments), timed(plain, theirs), timed(broad, theirs));
+    row(std::string("leaf, ") + words, 1, "calls", times[0], {{"C", times[1]}, {"C of 128 bits", times[2]}});
 }
 
 #define WITH(...) [](const Point &p) { return std::tie(__VA_ARGS__); }
@@ -193,12 +180,12 @@ static void leaf(const char *name, const char *words, i64 tolerance, Ours ours, 
 static void forward_leaves() {
     LEAF_ROW(mul60, "product", 2, WITH(p.a, p.b));
     LEAF_ROW(quot60, "quotient", 0, WITH(p.quotient, p.b));
-    LEAF_ROW(rad60, "ticks to radians", 2, WITH(p.n));
     LEAF_ROW(latitude60, "sine and cosine of the latitude", 200, WITH(p.n));
     LEAF_ROW(longitude60, "sine and cosine of the longitude", 4000, WITH(p.d));
-    LEAF_OTHER(k60, "K", 5000, WITH(p.e, p.sphere.t), WITH(p.square, p.sphere.t));
+    // Ours works K from the latitude; the prototype needs the sine for it, so its time has the sine's in it.
+    LEAF_OTHER(k60, "K of the latitude (in C with the sine)", 5000, WITH(p.krasovsky, p.n), WITH(p.square, p.n));
     LEAF_ROW(halves60, "numerator and denominator of sin f", 3, WITH(p.sphere.k, p.sphere.t));
-    LEAF_OTHER(sphere60, "all of these of a point (sphere60)", 10000, WITH(p.e, p.n, p.d), WITH(p.square, p.n, p.d));
+    LEAF_OTHER(sphere60, "sines, cosines, K and the parts of sin f, together", 10000, WITH(p.krasovsky, p.n, p.d), WITH(p.square, p.n, p.d));
     LEAF_ROW(across60, "cos f sin d", 3, WITH(p.sphere));
     LEAF_ROW(east30, "Mercator's y", 400, WITH(p.radius, p.across));
     LEAF_ROW(tilt60, "tangent of the difference from 52 degrees", 6, WITH(p.sphere.n2, p.sphere.kc));
@@ -226,6 +213,18 @@ static void inverse_leaves() {
     LEAF_ROW(inverse60, "B and L - L0 of Mercator's pair, whole", 1, WITH(p.krasovsky, p.x, p.y));
 }
 
+// The first and the last tick of each band.
+static void print_bands() {
+    const u64 width = 900000001, north = 172800000000, widest = 19800000000, highest = 201600000000;
+    for (u64 k = 0; k < 64; k++) {
+        u64 ticks = k / 2 * width + k % 2 * (width - 1), n = std::min(north + ticks, highest);
+        print_call("latitude60", leaf_latitude60, n);
+        print_call("longitude60", leaf_longitude60, std::min(ticks, widest));
+        print_call("k60", leaf_k60, false, n);
+        print_call("k60", leaf_k60, true, n);
+    }
+}
+
 // Points of each system, there and back.
 static void print_answers() {
     static const i64 meridians[] = {0, 68400000000, 54000000000, 64800000000, 75600000000, 86400000000, 54000000000, 75600000000, 54000000000, 75600000000,
@@ -237,21 +236,18 @@ static void print_answers() {
         uint8_t code = (uint8_t)(1 + k % 14);
         i64 b = random.between(172800000000, 201600000000), l = meridians[code] + random.between(-widths[code], widths[code]);
         Four there = leaf_forward(code, b, l);
-        Place back = leaf_inverse(code, there.x, there.y);
-        printf("forward"), print_numbers(code, b, l), printf(" ="), print_numbers(there), printf("\n");
-        printf("inverse"), print_numbers(code, there.x, there.y), printf(" ="), print_numbers(back), printf("\n");
+        print_call("forward", leaf_forward, code, b, l);
+        print_call("inverse", leaf_inverse, code, there.x, there.y);
     }
 }
 
 int main(int count, char **words) {
     printing = count > 1 && strcmp(words[1], "print") == 0;
     at = points(printing ? 2000 : COUNT);
-    if (!printing) {
-        printf("\nLeaves of the fixed-point arithmetic, nanoseconds for each call, beside the C prototype and beside it with 128-bit products; * is above 2\n");
-        printf("%-44s %8s   %8s %8s     %8s %8s\n", "call", "ours", "C", "ratio", "C 128", "ratio");
-    }
     forward_leaves();
     inverse_leaves();
-    if (printing) print_answers();
-    else printf("slowest leaf beside the C prototype: %.2f of its time\n", worst);
+    if (printing) {
+        print_bands();
+        print_answers();
+    }
 }

@@ -29,7 +29,7 @@ static const u64 ONE = 1ULL << 60, HALF = 1ULL << 30;
 // ---- constants: of both ellipsoids, GRS-80 first
 static const u64 TICK = 1536435884643401761, TICKS = 865137301901421231, THOUSANDTHS = 885900597147055340, AT_52 = 1046358366166695522,
                  TAN_52 = 1475672232396987915;
-static const u64 E[2] = {94331104842780033, 94324352151666884}, E_SQUARE[2] = {7718094688409816, 7716989728512023};
+static const u64 E_SQUARE[2] = {7718094688409816, 7716989728512023};
 static const u64 RATIO[2] = {1150989552223460208, 1150989829159782655}, RADIUS[2] = {6836996460007395, 6837113874861261};
 static const u64 CENTRE[2] = {20308250824945, 20414813166061}, OVER_RADIUS[2] = {759441209148909116, 759428167143141240};
 static const u64 SEED_FROM = 351641058905088327, SEED[3] = {636829586550925950, 257767101720653886, 38447625945040674};
@@ -175,11 +175,11 @@ struct Prototype {
     // ---- the leaves
     LEAF u64 mul60(u64 a, u64 b) { return times(a, b); }
     LEAF u64 quot60(u64 a, u64 b) { return over(a, b); }
-    LEAF u64 rad60(u64 n) { return angle_of(n); }
     LEAF Two tilt60(u64 n, u64 m) { return tilt_of(n, m); }
     LEAF Two latitude60(u64 n) { return turns_of(angle_of(n)); }
     LEAF Two longitude60(u64 d) { return small_turns_of(angle_of(d)); }
 
+    // From the latitude's sine.
     static inline u64 K_of(u64 square, u64 t) {
         u64 g = times(square, t), w = artanh_of(g, times(g, t)), h = w >> 25;
         u64 j = to35(POWER[4]) - short35(h, to35(POWER[5]));
@@ -188,7 +188,11 @@ struct Prototype {
         return ONE - w + mixed(times(w, w), j);
     }
 
-    LEAF u64 k60(u64 square, u64 t) { return K_of(square, t); }
+    // From the latitude itself, as ours: the sine is a part of it, and the cosine is not.
+    LEAF u64 k60(u64 square, u64 n) {
+        u64 x = angle_of(n);
+        return K_of(square, sine_of(x, times(x, x)));
+    }
 
     static inline Two halves_of(u64 k, u64 t) {
         u64 p = times(times(k, k), ONE + t), q = ONE - t;

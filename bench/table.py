@@ -10,7 +10,7 @@ A row is a line of fields parted by tabs:
     rate  CALL SIZE UNIT OURS                           records a second; nothing does the same, so it has no peer
 
 A row may come several times; the table has the least of its times, of ours and of each peer. Rows of one call stand together, in the order in which they came; so do
-the calls whose names are the same up to a comma.
+the calls whose names are the same up to a comma. A call `leaf, ..` that takes more than twice its first peer's time is warned of on standard error.
 Assumes Python 3.9 or newer and its standard library.
 """
 
@@ -102,6 +102,14 @@ def cells(row, before):
     return found + [NONE] * (len(TITLES) - len(found))
 
 
+def warn(row):
+    """A leaf's goal is at most twice the time of the same formula in C, its first peer."""
+    slowest = 2
+    name, time = next(iter(row.peers.items()), (None, math.inf))
+    if row.call.startswith("leaf,") and row.time > slowest * time:
+        print("bench: warning: %s takes %s times as long as %s" % (row.call, ratio(row.time / time), name), file=sys.stderr)
+
+
 def machine():
     """The processor's name and the count of its cores."""
     name = platform.machine()
@@ -124,6 +132,7 @@ def main():
     before = None
     for row in together(rows):
         print("| " + " | ".join(cells(row, before)) + " |")
+        warn(row)
         before = row
 
 

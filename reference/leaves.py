@@ -12,6 +12,7 @@ import sys
 from collections import namedtuple
 from fractions import Fraction
 
+import bands
 import definition as by
 import projection
 import worked
@@ -27,13 +28,11 @@ Leaf = namedtuple("Leaf", "name words scale bound theorem")
 U, LENGTH, PLAIN = 2**60, 2**30, 1
 
 FORWARD = (
-    Leaf("radians", "ticks of B to radians", U, 3, "fix-rad"),
-    Leaf("angle", "ticks of d to radians", U, 3, "fix-rad"),
-    Leaf("t", "sin B", U, 30, "latitude-sine-near"),
-    Leaf("c", "cos B", U, 150, "latitude-cosine-near"),
-    Leaf("sd", "sin d", U, 3000, "longitude-sine-near"),
-    Leaf("cd", "cos d", U, 30, "longitude-cosine-near"),
-    Leaf("K", "K", U, 2200, "K-of-near"),
+    Leaf("t", "sin B", U, 16, "latitude-sine-near"),
+    Leaf("c", "cos B", U, 14, "latitude-cosine-near"),
+    Leaf("sd", "sin d", U, 8, "longitude-sine-near"),
+    Leaf("cd", "cos d", U, 18, "longitude-cosine-near"),
+    Leaf("K", "K", U, 9, "K-of-near"),
     Leaf("numerator", "numerator of sin f", U, 9000, "numerator-of-near"),
     Leaf("denominator", "denominator of sin f", U, 9000, "denominator-of-near"),
     Leaf("doubled", "2 K cos B", U, 3400, "doubled-of-near"),
@@ -98,8 +97,8 @@ def forward_defined(ellipsoid, B, d):
     tilt = quotient(tangent - by.TAN_52, UNIT + product(tangent, by.TAN_52))
     north, east = product(k.R0, by.AT_52 + by.arctan(tilt)), product(k.R0, by.artanh(across))
     return {
-        "radians": b, "angle": angle, "t": t, "c": c, "sd": sd, "cd": cd, "K": K, "numerator": numerator, "denominator": denominator, "doubled": doubled,
-        "sin f": sin_f, "across": across, "artanh": by.artanh(across), "tilt": tilt, "arctan": by.arctan(tilt), "north": north - 5760000 * UNIT, "east": east,
+        "t": t, "c": c, "sd": sd, "cd": cd, "K": K, "numerator": numerator, "denominator": denominator, "doubled": doubled, "sin f": sin_f,
+        "across": across, "artanh": by.artanh(across), "tilt": tilt, "arctan": by.arctan(tilt), "north": north - 5760000 * UNIT, "east": east,
         **scale_defined(k, t, c, cos_f, sd, (north, east)), **turn_defined(k, sin_f, sd, cd, (north, east)),
     }
 
@@ -158,7 +157,7 @@ def inverse_defined(system, X, Y):
 def forward_worked(ellipsoid, B, d):
     at, side = worked.forward(worked.CONSTANTS[ellipsoid.name], B, abs(d)), -1 if d < 0 else 1
     south = -1 if at["south"] else 1
-    signed = {name: side * at[name] for name in ("angle", "sd", "across", "artanh", "east", "tangent", "turn", "convergence")}
+    signed = {name: side * at[name] for name in ("sd", "across", "artanh", "east", "tangent", "turn", "convergence")}
     return {
         **at, **signed, "numerator": 2 * at["n2"], "denominator": 2 * at["d2"], "doubled": 2 * at["kc"], "tilt": south * at["tilt"],
         "arctan": south * at["arctan"], "slope": (-side if at["back"] else side) * at["slope"], "X": Fraction(at["pair"][0]),
@@ -184,13 +183,16 @@ def inverse_worked(system, X, Y):
 
 
 def forward_points(rng, count):
-    """Ellipsoid, latitude and difference of longitude: corners and middles of the range, and random ones."""
+    """Ellipsoid, latitude and difference of longitude: corners and middles of the range, the bands' ends, and random ones."""
     low, high = projection.LOW_B, projection.HIGH_B
     for ellipsoid in (GRS80, KRASOVSKY):
         for B in (low, low + 1, 50 * DEGREE, 52 * DEGREE - 1, 52 * DEGREE, 52 * DEGREE + 1, 54 * DEGREE, high - 1, high):
             for d in (0, 1, 2, 1000, WIDEST // 2, WIDEST - 1, WIDEST):
                 yield ellipsoid, B, d
                 yield ellipsoid, B, -d
+        for ticks in (band * bands.WIDTH + h for band in range(32) for h in (0, bands.WIDTH - 1)):
+            for side in (1, -1):
+                yield ellipsoid, min(low + ticks, high), side * min(ticks, WIDEST)
         for _ in range(count // 2):
             yield ellipsoid, rng.randint(low, high), rng.randint(-WIDEST, WIDEST)
 

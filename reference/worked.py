@@ -1,14 +1,15 @@
 """What the product's arithmetic gives, step by step: whole numbers at scale 2^60, lengths in units of 2^-30 m, doubles for the polynomials alone.
 
-Written from the worked definitions in specs/ of the crates fixed, fixed_forward, fixed_scale, fixed_inverse, fixed_units, metres and projection. Functions bear
-the names of the code's. Tables and constants are worked out here from what they stand for, so that a wrong digit in the code shows; a table's length is said
-once, where the table is made. leaves.py holds these numbers to the definition, worked_against_code.py to the code. Assumes Python 3.9 or newer and its standard
-library.
+Written from the worked definitions in specs/ of the crates fixed, fixed_bands, fixed_forward, fixed_scale, fixed_inverse, fixed_units, metres and
+projection_worked. Functions bear the names of the code's. Tables and constants are worked out from what they stand for, here or for the bands in bands.py, so
+that a wrong digit in the code shows; a table's length is said once, where the table is made. leaves.py holds these numbers to the definition,
+worked_against_code.py to the code. Assumes Python 3.9 or newer and its standard library.
 """
 
 from fractions import Fraction
 from math import factorial
 
+import bands
 import functions as true
 from systems import DEGREE, GRS80, KRASOVSKY
 
@@ -44,9 +45,10 @@ def odds(count):
 
 SINE, COSINE = factorials(1, 2, 9), factorials(0, 2, 9)
 SMALL_SINE, SMALL_COSINE = factorials(1, 2, 4), factorials(0, 2, 5)
-EXPONENTIAL = factorials(0, 1, 6)
 ARTANH, ARCTAN, WIDE_ARCTAN, SLOPE = odds(5), odds(6), odds(8), odds(2)
 ROOT = [whole(Fraction(n, 128)) for n in (64, 16, 8, 5)]
+# rows of six coefficients for each band, by name
+BANDS = bands.tables()
 
 
 def latitude_table(ellipsoid):
@@ -57,7 +59,6 @@ def latitude_table(ellipsoid):
 
 # ---- constants
 
-TICK = whole(PI / (180 * DEGREE), 2**98)
 TICKS = whole(180 * DEGREE / PI, 2**22)
 THOUSANDTHS = whole(180 * 3600 * 1000 / PI, 2**32)
 TAN_52 = whole(Fraction(true.tan(52 * true.PI / 180)))
@@ -72,7 +73,8 @@ class Constants:
 
     def __init__(self, ellipsoid):
         e, a, R0 = Fraction(ellipsoid.e), Fraction(ellipsoid.a), Fraction(ellipsoid.R0)
-        self.e, self.square, self.ratio = whole(e), whole(e * e), whole(R0 / a)
+        self.shortfall = BANDS["shortfall-" + ("krasovsky" if ellipsoid is KRASOVSKY else "grs80")]
+        self.square, self.ratio = whole(e * e), whole(R0 / a)
         self.radius, self.centre = whole(R0, METRE), whole(R0 * AT_52 - 5760000, METRE)
         self.over_radius = whole(1 / R0, 2**82)
         self.back_centre = whole(Fraction(ellipsoid.a_coefficients[0]), METRE)
@@ -99,10 +101,6 @@ def quot60(a, b):
     first = a // above
     rest = (a - first * (b >> 30)) * HALF - first * (b % HALF)
     return first * HALF + rest // above
-
-
-def rad60(ticks):
-    return mul60(ticks << 22, TICK)
 
 
 def alt60(table, q):
@@ -141,19 +139,44 @@ def tilt60(n, m):
     return n < level, quot60(abs(n - level), m + mul60(n, TAN_52))
 
 
-# ---- crate fixed_forward
+# ---- crate fixed_bands
+
+
+def part30(s, h):
+    return (s >> 30) * h + (s % HALF * h >> 30)
+
+
+def polynomial(row, signs, h):
+    """c0 ± x·(c1 ± x·(c2 ± ..)), where x = h / 2^30: each step adds or takes away."""
+    total = row[-1]
+    for c, sign in zip(reversed(row[:-1]), reversed(signs)):
+        total = c + sign * part30(total, h)
+    return total
+
+
+def rising(rows, ticks):
+    band, h = divmod(ticks, bands.WIDTH)
+    return polynomial(rows[band], (1, -1, 1, -1, 1), h)
+
+
+def sinking(rows, ticks):
+    band, h = divmod(ticks, bands.WIDTH)
+    return polynomial(rows[band], (-1, 1, -1, 1, -1), h)
 
 
 def latitude60(n):
-    return odd_alt60(SINE, rad60(n)), even_alt60(COSINE, rad60(n))
+    return rising(BANDS["latitude-sine"], n - 48 * DEGREE), sinking(BANDS["latitude-cosine"], n - 48 * DEGREE)
 
 
 def longitude60(d):
-    return odd_alt60(SMALL_SINE, rad60(d)), even_alt60(SMALL_COSINE, rad60(d))
+    return rising(BANDS["longitude-sine"], d), sinking(BANDS["longitude-cosine"], d)
 
 
-def k60(e, t):
-    return alt60(EXPONENTIAL, mul60(e, odd_ser60(ARTANH, mul60(e, t))))
+# ---- crate fixed_forward
+
+
+def k60(shortfall, n):
+    return ONE - rising(shortfall, n - 48 * DEGREE)
 
 
 def halves60(k, t):
@@ -283,14 +306,14 @@ def millimetres(metres, millionths):
 def mercator(k, n, d):
     """Up to Mercator's pair, of a latitude of n ticks and a difference of longitude of d ticks."""
     (t, c), (sd, cd) = latitude60(n), longitude60(d)
-    K = k60(k.e, t)
+    K = k60(k.shortfall, n)
     n2, d2 = halves60(K, t)
     kc = mul60(K, c)
     south, size = tilt60(n2, mul60(kc, cd))
     across = across60(kc, d2, sd)
     return {
-        "radians": rad60(n), "angle": rad60(d), "t": t, "c": c, "sd": sd, "cd": cd, "K": K, "n2": n2, "d2": d2, "kc": kc, "south": south, "tilt": size,
-        "arctan": odd_alt60(ARCTAN, size), "across": across, "artanh": odd_ser60(ARTANH, across),
+        "t": t, "c": c, "sd": sd, "cd": cd, "K": K, "n2": n2, "d2": d2, "kc": kc, "south": south, "tilt": size, "arctan": odd_alt60(ARCTAN, size),
+        "across": across, "artanh": odd_ser60(ARTANH, across),
         "north": north30(k.centre, k.radius, south, size), "east": east30(k.radius, across),
     }
 

@@ -48,9 +48,13 @@ def constants(krasovsky):
     return worked.CONSTANTS[(GRS80, KRASOVSKY)[krasovsky].name]
 
 
-def sphere(e, n, d):
+def k60(krasovsky, n):
+    return worked.k60(constants(krasovsky).shortfall, n)
+
+
+def sphere(krasovsky, n, d):
     (t, c), (sd, cd) = worked.latitude60(n), worked.longitude60(d)
-    k = worked.k60(e, t)
+    k = k60(krasovsky, n)
     return (t, c, sd, cd, k, *worked.halves60(k, t), worked.mul60(k, c))
 
 
@@ -94,6 +98,7 @@ def inverse(code, X, Y):
 
 # Those whose arguments are not those of the model's function of the same name.
 CODE = {
+    "k60": k60,
     "sphere60": sphere,
     "across60": across,
     "north30": north,
