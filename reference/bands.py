@@ -1,9 +1,10 @@
-"""Makes the band tables of the crate `fixed_bands`: for each band of a quarter of a degree and a tick, the first six Taylor coefficients of a sine, a cosine and 1 - K at the band's start,
-as polynomials in x, where 2^30 ticks are x = 1, at scale 2^60, each to the nearest whole number, without signs.
+"""Makes the band tables of the crate `fixed_bands`: for each band of a quarter of a degree and a tick, the first six Taylor coefficients of a sine, a cosine and
+1 - K at the band's start, as polynomials in x, where 2^30 ticks are x = 1, at scale 2^60, each to the nearest whole number, without signs.
 
     python3 reference/bands.py rust|antt|errors
 
-The crate proves that the tables are near enough, whoever made them; `errors` prints how far each is off in units of 2^-60. Assumes Python's standard library alone.
+The crate proves that the tables are near enough, whoever made them; `errors` prints how far each is off in units of 2^-60. Assumes Python's standard library
+alone.
 """
 
 import sys
@@ -65,7 +66,8 @@ def shortfall_series(e):
     return of
 
 
-# Series, signs, first degree, number of bands: 32 everywhere, though a difference of longitude only comes to the first 22, because the code finds a row by five bits.
+# Series, signs, first degree, number of bands: 32 everywhere, though a difference of longitude only comes to the first 22, because the code finds a row by
+# five bits.
 KINDS = {
     "latitude-sine": (sine_series, RISING, 48, 32),
     "latitude-cosine": (cosine_series, SINKING, 48, 32),
@@ -95,7 +97,8 @@ def rust(name, rows):
 
 
 def antt(name, rows):
-    return f"abbrev pub {name}-table : List ℕ\n{name}-table =\n    " + "\n    ∷ ".join(" ∷ ".join(map(str, numbers)) for numbers in rows) + "\n    ∷ []\n"
+    lines = [" ∷ ".join(map(str, numbers)) for numbers in rows]
+    return f"abbrev pub {name}-table : List ℕ\n{name}-table =\n    " + "\n    ∷ ".join(lines) + "\n    ∷ []\n"
 
 
 def errors(name, rows):

@@ -50,13 +50,13 @@ tan-ratio {t} {w} {sf} {n} {d} {m} r1 r2 r3 hd hw ht =
 
 -- ---- the code's numbers: n2, d2 and kc are half of the definition's n, d and g, and z is its cos d
 module _ {cd : ℕ} (n2 d2 kc : ℕ) (n d g z : ℤ)
-    (fn : Fixed (2 * n2) n (9000 * unit) (130 * S60 / 100) (176 * S60 / 100))
-    (fd : Fixed (2 * d2) d (9000 * unit) (178 * S60 / 100) (220 * S60 / 100))
-    (fg : Fixed (2 * kc) g (3400 * unit) (107 * S60 / 100) (136 * S60 / 100))
+    (fn : Fixed (2 * n2) n (110 * unit) (130 * S60 / 100) (176 * S60 / 100))
+    (fd : Fixed (2 * d2) d (110 * unit) (178 * S60 / 100) (220 * S60 / 100))
+    (fg : Fixed (2 * kc) g (60 * unit) (107 * S60 / 100) (136 * S60 / 100))
     (fz : Fixed cd z (18 * unit) (99 * S60 / 100) S60) where
-  pub middle-near : Fixed (2 * mul60 kc cd) (product g z) (3500 * unit) (105 * S60 / 100) (136 * S60 / 100)
+  pub middle-near : Fixed (2 * mul60 kc cd) (product g z) (100 * unit) (105 * S60 / 100) (136 * S60 / 100)
   unfolding numbers
-  middle-near = fix-le (3500 * unit) (105 * S60 / 100) (136 * S60 / 100) (fix-mul-double kc (product g z) (product-rest g z) fg fz tt tt) tt tt tt
+  middle-near = fix-le (100 * unit) (105 * S60 / 100) (136 * S60 / 100) (fix-mul-double kc (product g z) (product-rest g z) fg fz tt tt) tt tt tt
 
   -- the definition's tangent, sin f / (cos f·cos d)
   abbrev pub tangent : ℤ
@@ -110,13 +110,13 @@ same-shift p q r c = ring (p ∷ q ∷ r ∷ c ∷ []) λ ρ e1 e2 e3 e4. simp (
 
 -- within 50 units
 pub north-near : {u : ℕ} (E : Ellipsoid) (s : Bool) (t : ℤ)
-    → Fixed u (turned s (slant t)) (4800 * unit) 0 (89 * S60 / 1000)
+    → Fixed u (turned s (slant t)) (250 * unit) 0 (89 * S60 / 1000)
     → NearAt (2 ^ 30) (north30 (centre30 E) (radius30 E) s u) (product (constants E .R0) (arctan-about-52 t) -ℤ 5760000 /10^ 0) (50 * unit)
 unfolding north30 arctan-about-52 slant numbers
 north-near {u} E s t f =
     let R0 = constants E .R0 in
     let A = arctan (slant t) in
-    let a = fix-le (6900 * unit) 0 (89 * S60 / 1000) (fix-arctan arctan-table s (slant t) tt f tt tt tt) tt tt tt in
+    let a = fix-le (2400 * unit) 0 (89 * S60 / 1000) (fix-arctan arctan-table s (slant t) tt f tt tt tt) tt tt tt in
     let m = mul60-is (odd-alt60 u arctan-table) (radius30 E) (le-trans (a .high) (lit≤ tt)) (le-trans (radius-high E) (lit≤ tt)) in
     let r = near-turn s (product A R0) (near-mul-turned s A m (a .high) (radius-high E) (a .near) (radius-near E)) in
     let gap = w-same _ (same-shift (product R0 at-52) (product R0 A) (product R0 (at-52 +ℤ A)) (5760000 /10^ 0)) (product-sum R0 at-52 A) in

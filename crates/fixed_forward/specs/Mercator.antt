@@ -70,15 +70,15 @@ module _ (E : Ellipsoid) (n : ℕ) (h : Latitude n) where
   pub K-of-near : Fixed (K60 E n) K (9 * unit) (994 * S60 / 1000) S60
   K-of-near = K-near n h E
 
-  pub numerator-of-near : Fixed (2 * numerator-of E n) (numerator K t) (9000 * unit) (130 * S60 / 100) (176 * S60 / 100)
+  pub numerator-of-near : Fixed (2 * numerator-of E n) (numerator K t) (110 * unit) (130 * S60 / 100) (176 * S60 / 100)
   unfolding numerator-of
   numerator-of-near = numerator-near K-of-near (latitude-sine-near n h)
 
-  pub denominator-of-near : Fixed (2 * denominator-of E n) (denominator K t) (9000 * unit) (178 * S60 / 100) (220 * S60 / 100)
+  pub denominator-of-near : Fixed (2 * denominator-of E n) (denominator K t) (110 * unit) (178 * S60 / 100) (220 * S60 / 100)
   unfolding denominator-of
   denominator-of-near = denominator-near K-of-near (latitude-sine-near n h)
 
-  pub doubled-of-near : Fixed (2 * doubled-of E n) (product (pos 2 *ℤ K) c) (3400 * unit) (107 * S60 / 100) (136 * S60 / 100)
+  pub doubled-of-near : Fixed (2 * doubled-of E n) (product (pos 2 *ℤ K) c) (60 * unit) (107 * S60 / 100) (136 * S60 / 100)
   unfolding doubled-of
   doubled-of-near = doubled-near K-of-near (latitude-cosine-near n h)
 
@@ -86,7 +86,7 @@ module _ (E : Ellipsoid) (n : ℕ) (h : Latitude n) where
     abbrev δ : ℤ
     δ = radians (turned s (pos d))
 
-    pub across-of-near : Fixed (across-of E n d) (turned s (product (sphere-at E n .cos-f) (sine δ))) (3200 * unit) 0 (74 * S60 / 1000)
+    pub across-of-near : Fixed (across-of E n d) (turned s (product (sphere-at E n .cos-f) (sine δ))) (60 * unit) 0 (74 * S60 / 1000)
     unfolding across-of sphere-at sphere denominator
     across-of-near = across-near (doubled-of E n) (denominator-of E n) s (product (pos 2 *ℤ K) c) (denominator K t) (sine δ) doubled-of-near denominator-of-near (longitude-sine-near s d g)
 
@@ -95,7 +95,7 @@ module _ (E : Ellipsoid) (n : ℕ) (h : Latitude n) where
     east-turned = east-near E s (product (sphere-at E n .cos-f) (sine δ)) across-of-near
 
     -- the tangent of the difference from 52°
-    pub tilt-of-near : Fixed (tilt60 (numerator-of E n) (middle-of E n d)) (turned (tilt-south (numerator-of E n) (middle-of E n d)) (slant (quotient (sphere-at E n .sin-f) (product (sphere-at E n .cos-f) (cosine δ))))) (4800 * unit) 0 (89 * S60 / 1000)
+    pub tilt-of-near : Fixed (tilt60 (numerator-of E n) (middle-of E n d)) (turned (tilt-south (numerator-of E n) (middle-of E n d)) (slant (quotient (sphere-at E n .sin-f) (product (sphere-at E n .cos-f) (cosine δ))))) (250 * unit) 0 (89 * S60 / 1000)
     unfolding sphere-at sphere numerator denominator numerator-of middle-of doubled-of
     tilt-of-near =
         let fz = longitude-cosine-near s d g in

@@ -50,7 +50,7 @@ module _ (E : Ellipsoid) (n : ℕ) (h : Latitude n) (s : Bool) (d : ℕ) (g : d 
   unfolding east-of east30 numbers
   east-narrow =
       let v = across-of-near E n h s d g in
-      let a = fix-le (46000 * unit) 0 (76 * S60 / 1000) (fix-artanh artanh-table s _ tt v tt tt tt) tt tt tt in
+      let a = fix-le (43000 * unit) 0 (76 * S60 / 1000) (fix-artanh artanh-table s _ tt v tt tt tt) tt tt tt in
       let m = mul60-is (odd-ser60 (across-of E n d) artanh-table) (radius30 E) (le-trans (a .high) (lit≤ tt)) (le-trans (radius-high E) (lit≤ tt)) in
       go _ (scaled-high 76 m (a .high) (radius-high E))
     where
@@ -64,7 +64,7 @@ module _ (E : Ellipsoid) (n : ℕ) (h : Latitude n) (s : Bool) (d : ℕ) (g : d 
   unfolding numbers
   angle-size =
       let t = tilt-of-near E n h s d g in
-      let a = fix-le (6900 * unit) 0 (89 * S60 / 1000) (fix-arctan arctan-table (tilt-south (numerator-of E n) (middle-of E n d)) _ tt t tt tt tt) tt tt tt in
+      let a = fix-le (2400 * unit) 0 (89 * S60 / 1000) (fix-arctan arctan-table (tilt-south (numerator-of E n) (middle-of E n d)) _ tt t tt tt tt) tt tt tt in
       let m = mul60-is (odd-alt60 (tilt60 (numerator-of E n) (middle-of E n d)) arctan-table) (radius30 E) (le-trans (a .high) (lit≤ tt)) (le-trans (radius-high E) (lit≤ tt)) in
       go _ (scaled-high 89 m (a .high) (radius-high E))
     where

@@ -28,30 +28,30 @@ unfoldable pub denominator : ℤ → ℤ → ℤ
 denominator K t = lifted K t +ℤ (one -ℤ t)
 
 module _ {k t : ℕ} {K y : ℤ} (fk : Fixed k K (9 * unit) (994 * S60 / 1000) S60) (ft : Fixed t y (16 * unit) (70 * S60 / 100) (87 * S60 / 100)) where
-  lifted-near : Fixed (lifted60 k t) (lifted K y) (8300 * unit) (166 * S60 / 100) (188 * S60 / 100)
+  lifted-near : Fixed (lifted60 k t) (lifted K y) (80 * unit) (166 * S60 / 100) (188 * S60 / 100)
   unfolding lifted60 lifted numbers
-  lifted-near = fix-le (8300 * unit) (166 * S60 / 100) (188 * S60 / 100) (fix-mul (fix-mul fk fk tt tt) (fix-add (fix-const S60 one) ft) tt tt) tt tt tt
+  lifted-near = fix-le (80 * unit) (166 * S60 / 100) (188 * S60 / 100) (fix-mul (fix-mul fk fk tt tt) (fix-add (fix-const S60 one) ft) tt tt) tt tt tt
 
   rest-near : Fixed (S60 - t) (one -ℤ y) (16 * unit) (13 * S60 / 100) (31 * S60 / 100)
   unfolding numbers
   rest-near = fix-le (16 * unit) (13 * S60 / 100) (31 * S60 / 100) (fix-minus (fix-const S60 one) ft tt) tt tt tt
 
-  pub numerator-near : Fixed (2 * numerator60 k t) (numerator K y) (9000 * unit) (130 * S60 / 100) (176 * S60 / 100)
+  pub numerator-near : Fixed (2 * numerator60 k t) (numerator K y) (110 * unit) (130 * S60 / 100) (176 * S60 / 100)
   unfolding numerator60 numerator
-  numerator-near = fix-le (9000 * unit) (130 * S60 / 100) (176 * S60 / 100) (fix-halved (fix-minus lifted-near rest-near tt)) tt tt tt
+  numerator-near = fix-le (110 * unit) (130 * S60 / 100) (176 * S60 / 100) (fix-halved (fix-minus lifted-near rest-near tt)) tt tt tt
 
-  pub denominator-near : Fixed (2 * denominator60 k t) (denominator K y) (9000 * unit) (178 * S60 / 100) (220 * S60 / 100)
+  pub denominator-near : Fixed (2 * denominator60 k t) (denominator K y) (110 * unit) (178 * S60 / 100) (220 * S60 / 100)
   unfolding denominator60 denominator
-  denominator-near = fix-le (9000 * unit) (178 * S60 / 100) (220 * S60 / 100) (fix-halved (fix-add lifted-near rest-near)) tt tt tt
+  denominator-near = fix-le (110 * unit) (178 * S60 / 100) (220 * S60 / 100) (fix-halved (fix-add lifted-near rest-near)) tt tt tt
 
 -- ---- K·cos B, and the definition's 2K·cos B
 pub doubled-near : {k c : ℕ} {K y : ℤ}
     → Fixed k K (9 * unit) (994 * S60 / 1000) S60
     → Fixed c y (14 * unit) (54 * S60 / 100) (68 * S60 / 100)
-    → Fixed (2 * mul60 k c) (product (pos 2 *ℤ K) y) (3400 * unit) (107 * S60 / 100) (136 * S60 / 100)
+    → Fixed (2 * mul60 k c) (product (pos 2 *ℤ K) y) (60 * unit) (107 * S60 / 100) (136 * S60 / 100)
 unfolding numbers
 doubled-near {k} {K = K} {y = y} fk fc =
-    fix-le (3400 * unit) (107 * S60 / 100) (136 * S60 / 100) (fix-mul-double k (product (pos 2 *ℤ K) y) (product-rest (pos 2 *ℤ K) y) (fix-twice fk) fc tt tt) tt tt tt
+    fix-le (60 * unit) (107 * S60 / 100) (136 * S60 / 100) (fix-mul-double k (product (pos 2 *ℤ K) y) (product-rest (pos 2 *ℤ K) y) (fix-twice fk) fc tt tt) tt tt tt
 
 -- ---- how large they are, for the callers' own needs
 pub record HalvesSizes (n2 d2 : ℕ) : Type 0 where
@@ -69,10 +69,10 @@ halves-sizes k t h = go (numerator60 k t) (denominator60 k t) (fn .low) (fn .hig
     ft : Fixed t (self t) (16 * unit) (70 * S60 / 100) (87 * S60 / 100)
     ft = record { near = near-self t (16 * unit) tt; low = h .2; high = h .3 }
 
-    fn : Fixed (2 * numerator60 k t) (numerator (self k) (self t)) (9000 * unit) (130 * S60 / 100) (176 * S60 / 100)
+    fn : Fixed (2 * numerator60 k t) (numerator (self k) (self t)) (110 * unit) (130 * S60 / 100) (176 * S60 / 100)
     fn = numerator-near fk ft
 
-    fd : Fixed (2 * denominator60 k t) (denominator (self k) (self t)) (9000 * unit) (178 * S60 / 100) (220 * S60 / 100)
+    fd : Fixed (2 * denominator60 k t) (denominator (self k) (self t)) (110 * unit) (178 * S60 / 100) (220 * S60 / 100)
     fd = denominator-near fk ft
 
     go : (n d : ℕ) → 130 * S60 / 100 ≤ 2 * n → 2 * n ≤ 176 * S60 / 100 → 178 * S60 / 100 ≤ 2 * d → 2 * d ≤ 220 * S60 / 100 → HalvesSizes n d
@@ -82,5 +82,5 @@ halves-sizes k t h = go (numerator60 k t) (denominator60 k t) (fn .low) (fn .hig
 pub lifted-low : (k t : ℕ) → (994 * S60 / 1000 ≤ k) × (k ≤ S60) × (70 * S60 / 100 ≤ t) × (t ≤ 87 * S60 / 100) → (166 * S60 / 100 ≤ lifted60 k t) × (lifted60 k t ≤ 188 * S60 / 100)
 lifted-low k t h = (f .low, f .high)
   where
-    f : Fixed (lifted60 k t) (lifted (self k) (self t)) (8300 * unit) (166 * S60 / 100) (188 * S60 / 100)
+    f : Fixed (lifted60 k t) (lifted (self k) (self t)) (80 * unit) (166 * S60 / 100) (188 * S60 / 100)
     f = lifted-near (record { near = near-self k (9 * unit) tt; low = h .0; high = h .1 }) (record { near = near-self t (16 * unit) tt; low = h .2; high = h .3 })

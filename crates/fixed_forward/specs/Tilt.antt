@@ -73,8 +73,8 @@ BandTest sl sh cl ch =
     NumTest sl sh
     × T (leb ch (2 ^ 61))
     × T (leb (2 * S60 * ch / S60) (2 ^ 62))
-    × TiltTest 57 (9000 * unit) (numL sl) (numH sh) (3500 * unit) (midL cl) (midH ch)
-    × T (leb (tiltE 57 (9000 * unit) (numL sl) (numH sh) (3500 * unit) (midL cl) (midH ch)) (4800 * unit))
+    × TiltTest 57 (110 * unit) (numL sl) (numH sh) (100 * unit) (midL cl) (midH ch)
+    × T (leb (tiltE 57 (110 * unit) (numL sl) (numH sh) (100 * unit) (midL cl) (midH ch)) (250 * unit))
     × T (leb (tilt-numH (numL sl) (numH sh) (midL cl) (midH ch) * S60 / tilt-denL (numL sl) (midL cl)) (89 * S60 / 1000))
 
 module _ {k cd : ℕ} {K z : ℤ} {ek ec es lt ut lc hc ed ln hn lm hm : ℕ} {y x : ℤ} (n : ℕ) (N M t : ℤ)
@@ -82,8 +82,8 @@ module _ {k cd : ℕ} {K z : ℤ} {ek ec es lt ut lc hc ed ln hn lm hm : ℕ} {y
     (ft : Fixed (latitude-sine n) y es lt ut)
     (fc : Fixed (latitude-cosine n) x ec lc hc)
     (fd : Fixed cd z ed (99 * S60 / 100) S60)
-    (fN : Fixed (2 * numerator60 k (latitude-sine n)) N (9000 * unit) ln hn)
-    (fM : Fixed (2 * mul60 (mul60 k (latitude-cosine n)) cd) M (3500 * unit) lm hm)
+    (fN : Fixed (2 * numerator60 k (latitude-sine n)) N (110 * unit) ln hn)
+    (fM : Fixed (2 * mul60 (mul60 k (latitude-cosine n)) cd) M (100 * unit) lm hm)
     (ht : Within (t *ℤ M -ℤ N *ℤ pos unit) (57 * unit))
     (wt : Within t (4 * unit)) where
   abbrev n2 : ℕ
@@ -93,7 +93,7 @@ module _ {k cd : ℕ} {K z : ℤ} {ek ec es lt ut lc hc ed ln hn lm hm : ℕ} {y
   m2 = mul60 (mul60 k (latitude-cosine n)) cd
 
   abbrev Tilted : Type 0
-  Tilted = Fixed (tilt60 n2 m2) (turned (tilt-south n2 m2) (slant t)) (4800 * unit) 0 (89 * S60 / 1000)
+  Tilted = Fixed (tilt60 n2 m2) (turned (tilt-south n2 m2) (slant t)) (250 * unit) 0 (89 * S60 / 1000)
 
   band : (sl sh cl ch : ℕ)
       → Spans n sl sh cl ch
@@ -102,7 +102,7 @@ module _ {k cd : ℕ} {K z : ℤ} {ek ec es lt ut lc hc ed ln hn lm hm : ℕ} {y
   band sl sh cl ch b tests =
       let bn = num-band fk ft (record { low = b .sine-low; high = b .sine-high }) (tests .0) in
       let bm = mid-band fk fc fd (record { low = b .cosine-low; high = b .cosine-high }) (tests .1) (tests .2) in
-      fix-le (4800 * unit) 0 (89 * S60 / 1000) (fix-tilt 57 n2 m2 N M t (narrow fN bn) (narrow fM bm) ht wt (tests .3)) (tests .4) tt (tests .5)
+      fix-le (250 * unit) 0 (89 * S60 / 1000) (fix-tilt 57 n2 m2 N M t (narrow fN bn) (narrow fM bm) ht wt (tests .3)) (tests .4) tt (tests .5)
 
   pub tilt-near : Latitude n → Tilted
   unfolding numbers

@@ -47,21 +47,21 @@ turn-of E n d = turn60 (sine-f60 (numerator-of E n) (denominator-of E n)) (longi
 
 -- ---- sin f
 module _ (n2 d2 : ℕ) (n d : ℤ)
-    (fn : Fixed (2 * n2) n (9000 * unit) (130 * S60 / 100) (176 * S60 / 100))
-    (fd : Fixed (2 * d2) d (9000 * unit) (178 * S60 / 100) (220 * S60 / 100)) where
+    (fn : Fixed (2 * n2) n (110 * unit) (130 * S60 / 100) (176 * S60 / 100))
+    (fd : Fixed (2 * d2) d (110 * unit) (178 * S60 / 100) (220 * S60 / 100)) where
   d-low : 17 * unit / 10 ≤ natAbs d
   unfolding numbers
   d-low = le-trans (lit≤ tt) (near-least (fd .near) (fd .low))
 
-  pub sine-f-near : Fixed (sine-f60 n2 d2) (quotient n d) (10200 * unit) (59 * S60 / 100) (99 * S60 / 100)
+  pub sine-f-near : Fixed (sine-f60 n2 d2) (quotient n d) (140 * unit) (59 * S60 / 100) (99 * S60 / 100)
   unfolding sine-f60 numbers
   sine-f-near =
-      fix-le (10200 * unit) (59 * S60 / 100) (99 * S60 / 100)
+      fix-le (140 * unit) (59 * S60 / 100) (99 * S60 / 100)
       (fix-quot-double n2 d2 (ratio-div n d (le-trans (lit≤ tt) d-low)) fn fd (tt, tt, tt) tt) tt tt tt
 
 -- ---- arctan(sin f·tan d)
 module _ {sf sd cd : ℕ} (s : Bool) (f z c : ℤ)
-    (ff : Fixed sf f (10200 * unit) (59 * S60 / 100) (99 * S60 / 100))
+    (ff : Fixed sf f (140 * unit) (59 * S60 / 100) (99 * S60 / 100))
     (fz : Fixed sd (turned s z) (8 * unit) 0 (961 * S60 / 10000))
     (fc : Fixed cd c (18 * unit) (99 * S60 / 100) S60) where
   c-low : 98 * unit / 100 ≤ natAbs c
@@ -79,15 +79,15 @@ module _ {sf sd cd : ℕ} (s : Bool) (f z c : ℤ)
       twice : (n : ℕ) → 98 * unit / 100 ≤ n → unit ≤ 2 * n
       twice n h = omega arith
 
-  slope-near : Fixed (quot60 (mul60 sd sf) cd) (turned s (product f (quotient z c))) (4100 * unit) 0 (97 * S60 / 1000)
+  slope-near : Fixed (quot60 (mul60 sd sf) cd) (turned s (product f (quotient z c))) (45 * unit) 0 (97 * S60 / 1000)
   unfolding numbers
   slope-near =
-      subst (λ x. Fixed (quot60 (mul60 sd sf) cd) (turned s x) (4100 * unit) 0 (97 * S60 / 1000)) (product-comm (quotient z c) f)
-      (fix-le (4100 * unit) 0 (97 * S60 / 1000) (fix-quot (ratio-turned s ratio) (fix-mul-turned s z fz ff tt tt) fc (tt, tt, tt) tt) tt tt tt)
+      subst (λ x. Fixed (quot60 (mul60 sd sf) cd) (turned s x) (45 * unit) 0 (97 * S60 / 1000)) (product-comm (quotient z c) f)
+      (fix-le (45 * unit) 0 (97 * S60 / 1000) (fix-quot (ratio-turned s ratio) (fix-mul-turned s z fz ff tt tt) fc (tt, tt, tt) tt) tt tt tt)
 
-  pub turn-near : Fixed (turn60 sf sd cd) (turned s (arctan (product f (quotient z c)))) (11000 * unit) 0 (97 * S60 / 1000)
+  pub turn-near : Fixed (turn60 sf sd cd) (turned s (arctan (product f (quotient z c)))) (7000 * unit) 0 (97 * S60 / 1000)
   unfolding turn60 numbers
-  turn-near = fix-le (11000 * unit) 0 (97 * S60 / 1000) (fix-arctan arctan-table s (product f (quotient z c)) tt slope-near tt tt tt) tt tt tt
+  turn-near = fix-le (7000 * unit) 0 (97 * S60 / 1000) (fix-arctan arctan-table s (product f (quotient z c)) tt slope-near tt tt tt) tt tt tt
 
 -- ---- signs: one turn after another
 other : Bool → Bool → Bool

@@ -120,7 +120,7 @@ meridian-near E y ft =
 pub spread-near : {v : ℕ} (s : Bool) (f z : ℤ)
     → Within f (1 * unit)
     → Within z (1 * unit)
-    → Fixed v (turned s (product f z)) (3200 * unit) 0 (74 * S60 / 1000)
+    → Fixed v (turned s (product f z)) (60 * unit) 0 (74 * S60 / 1000)
     → Fixed (spread60 v) (spread-at f z) (314000 * unit) (994 * S60 / 1000) S60
 unfolding spread60 spread-at numbers squareD seriesD
 spread-near {v} s f z hf hz fv =
@@ -132,7 +132,7 @@ module _ {k r₁ r₂ : ℕ} (E : Ellipsoid) (d2 : ℕ) (K c ρ₁ d ρ₂ : ℤ
     (fk : Fixed k K (9 * unit) (994 * S60 / 1000) S60)
     (fc-high : Within c (1 * unit)) (fc-low : unit / 2 ≤ natAbs c)
     (f₁ : Fixed r₁ ρ₁ (213000 * unit) (994 * S60 / 1000) S60)
-    (fd : Fixed (2 * d2) d (9000 * unit) (178 * S60 / 100) (220 * S60 / 100))
+    (fd : Fixed (2 * d2) d (110 * unit) (178 * S60 / 100) (220 * S60 / 100))
     (f₂ : Fixed r₂ ρ₂ (314000 * unit) (994 * S60 / 1000) S60) where
   abbrev k2 : ℤ
   k2 = pos 2 *ℤ K
