@@ -1,5 +1,5 @@
-"""Makes the band tables of the crate `fixed_bands`: for each band of a quarter of a degree and a tick, the first six Taylor coefficients of a sine, a cosine and
-1 - K at the band's start, as polynomials in x, where 2^30 ticks are x = 1, at scale 2^60, each to the nearest whole number, without signs.
+"""Makes the band tables of the crate `fixed_bands`: for each band of a quarter of a degree and a tick, the first six Taylor coefficients of a sine, a cosine
+and 1 - K at the band's start, as polynomials in x, where 2^30 ticks are x = 1, at scale 2^60, each to the nearest whole number, without signs.
 
     python3 reference/bands.py rust|antt|errors
 
