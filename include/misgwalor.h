@@ -11,6 +11,7 @@
  *  - No pointer is null, also where the length beside it is 0 (any address of an int64_t serves then). Each is aligned as an int64_t is.
  *  - `int64_t answer[4]` is a pointer to at least as many numbers as stand in the brackets, all of them readable and writable. The library trusts this
  *    size; sizes that travel beside a pointer (`numbers`, `out_numbers`) are counts of int64_t, not of bytes and not of corners, and are checked.
+ *  - A code is handed over as eight bits: C itself cuts a larger number to its last eight bits before the call, so 257 arrives as 1.
  *  - Memory that a call writes overlaps no other memory lent to the same call: `out` not `corners`, `edges` not `answer`. Memory that is only read may be
  *    shared.
  *
@@ -54,14 +55,14 @@ extern "C" {
 
 /*
  * Latitude B and longitude L to the plane of a system.
- * answer: X, Y, scale, convergence, each within 0.6 of its unit of the published procedure.
+ * answer: X, Y, scale, convergence, each within 0.6 of its unit of the published procedure as document 01 writes it out.
  * Refusals, in this order: 1, 2, 3, 10. On a refusal answer holds what it held.
  */
 uint8_t misgwalor_forward(uint8_t code, int64_t b, int64_t l, int64_t answer[4]);
 
 /*
  * A plane point of a system to latitude and longitude.
- * answer: B, L, each within 0.6 tick of the published procedure.
+ * answer: B, L, each within 0.6 tick of the published procedure as document 01 writes it out.
  * Refusals, in this order: 1, 4, 10, 2, 3; 2 and 3 are judged on the ticks that would be answered. On a refusal answer holds what it held.
  */
 uint8_t misgwalor_inverse(uint8_t code, int64_t x, int64_t y, int64_t answer[2]);

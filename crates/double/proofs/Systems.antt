@@ -84,6 +84,16 @@ pub micrometre : (cs : List ℤ) → LightTable unit cs reach 8000000 → (z : P
 micrometre [] light z Z = tt
 micrometre (c ∷ cs) light z Z = near-exact c cs z Z light
 
+-- of each step that the code has
+pub forward-micrometre : (k : Ellipsoid) (z : Pair) → Numbers z → NearExactTable (a-coefficients (constants k)) z (horner (doubles unit (a-coefficients (constants k))) z)
+forward-micrometre k = micrometre (a-coefficients (constants k)) (forward-light k)
+
+pub inverse-micrometre : (k : Ellipsoid) (z : Pair) → Numbers z → NearExactTable (b-coefficients (constants k)) z (horner (doubles unit (b-coefficients (constants k))) z)
+inverse-micrometre k = micrometre (b-coefficients (constants k)) (inverse-light k)
+
+pub derivative-micrometre : (k : Ellipsoid) (z : Pair) → Numbers z → NearExactTable (derivative (a-coefficients (constants k))) z (horner (doubles unit (derivative (a-coefficients (constants k)))) z)
+derivative-micrometre k = micrometre (derivative (a-coefficients (constants k))) (derivative-light k)
+
 -- ---- "a0 + a1·z + .. + a6·z^6", its derivative, and the b polynomial, for z and w of parts at most 1.2 that are e apart
 pub forward-defined : (k : Ellipsoid) (z : Pair) (w : scaled.Pair) (e : ℕ) → Inside z reach → Modulus w reach-24 → Apart z w e → Defined (a-coefficients (constants k)) w (horner (doubles unit (a-coefficients (constants k))) z) 500500 2100000 e
 forward-defined k = of-table (a-coefficients (constants k)) 500500 2100000 (forward-light k) (forward-gentle k)

@@ -1,4 +1,4 @@
--- Laws for the proofs of `projection::backward`: the two divisions that undo m0, and unsigned numbers as signed ones. Assumes nothing.
+-- Laws for the proofs of `projection_inverse::backward`: the two divisions that undo m0, and unsigned numbers as signed ones. Assumes nothing.
 use mathlib.Core.Bool.{Bool, true, false}
 use mathlib.Core.Path.{_≡_, refl, sym, ap, _∙_}
 use Prim.Native.Nat.{ℕ, _+_, _*_, _/_, _%_, _^_, _≤_, _<_}

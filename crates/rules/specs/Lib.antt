@@ -3,7 +3,7 @@
 --   01, The systems                      Systems
 --   01, The projection as whole numbers  Scaled (arithmetic, series), Projection (forward, inverse), Rounding (nearest, the band), Polynomial (the step in f64),
 --                                        Points (what forward, inverse and plane to plane answer)
---   01, Rings                            Rings (the rules), Crossing (the crossing test, by computing), Nozzle (checks and answers of a ring), Conversion
+--   01, Rings                            Rings (the rules), Crossing (the crossing test, by computing), RingAnswers (checks and answers of a ring), Conversion
 --   01, The job file                     JobFile
 --   01, Refusal numbers and their order  Refusals (the numbers, and checks in order); each call's order stands in its own definition
 --   01, Numbers to try                   Numbers (P1 to P12), Tried (J, the bow tie, the numbers to run, a point of each code)

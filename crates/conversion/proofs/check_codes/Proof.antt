@@ -9,48 +9,38 @@ use Rattle.conversion.proofs.check_codes.Lts as lts
 use Rattle.conversion.proofs.compare_ellipsoids.Reads as compare-ellipsoids-reads
 use Rattle.systems.proofs.find_zone.Reads as find-zone-reads
 
--- src/lib.rt:36:11
 find-zone-requires : tie.Need-find-zone-requires
 find-zone-requires c κs = search needs
 
--- src/lib.rt:37:32
 enum-told : tie.Need-enum-told
 enum-told c = search needs
 
--- src/lib.rt:38:27
 enum-known-s : tie.Need-enum-known-s
 enum-known-s c = search needs
 
--- src/lib.rt:38:39
 find-zone-requires-2 : tie.Need-find-zone-requires-2
 find-zone-requires-2 c κs = search needs
 
--- src/lib.rt:39:36
 enum-told-2 : tie.Need-enum-told-2
 enum-told-2 c = search needs
 
--- src/lib.rt:40:31
 enum-known-t : tie.Need-enum-known-t
 enum-known-t c = search needs
 
--- src/lib.rt:40:37
 compare-ellipsoids-requires : tie.Need-compare-ellipsoids-requires
 compare-ellipsoids-requires c κs = search needs
 
--- src/lib.rt:33:1
 returns : tie.Need-returns
 returns c =
     let b = c .before .before .before in
     sym (no-source (b .args .source) (b .args .target) 1 (subst (Found (b .args .source)) (c .enum-told .given .1) (c .before .before .find-zone .ensures)))
 
--- src/lib.rt:33:1
 returns-2 : tie.Need-returns-2
 returns-2 c =
     let b = c .before .before .before .before .before .before .before in
     let f = subst (Found (b .args .source)) (c .before .before .before .before .s .given .1) (c .before .before .before .before .before .before .find-zone .ensures) in
     sym (no-target (b .args .source) (b .args .target) 1 (f .0) (f .1) (subst (Found (b .args .target)) (c .enum-told2 .given .1) (c .before .before .find-zone2 .ensures)))
 
--- src/lib.rt:33:1
 returns-3 : tie.Need-returns-3
 returns-3 c =
     let b = c .before .before .before .before .before .before .before .before .before in

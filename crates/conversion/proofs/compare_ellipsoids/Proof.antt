@@ -6,19 +6,15 @@ use Rattle.conversion.proofs.compare_ellipsoids.Tie as tie
 use Rattle.conversion.proofs.compare_ellipsoids.Reads as reads
 use Rattle.conversion.proofs.compare_ellipsoids.Lts as lts
 
--- src/lib.rt:22:13
 returns : tie.Need-returns
 returns c = search needs
 
--- src/lib.rt:24:9
 returns-2 : tie.Need-returns-2
 returns-2 c = sym (ap₂ ellipsoid-check (c .before .if1 .taken) (c .if2 .left))
 
--- src/lib.rt:27:9
 returns-3 : tie.Need-returns-3
 returns-3 c = sym (ap₂ ellipsoid-check (c .before .if1 .left) (c .if3 .taken))
 
--- src/lib.rt:17:1
 returns-4 : tie.Need-returns-4
 returns-4 c = search needs
 

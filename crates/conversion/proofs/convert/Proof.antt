@@ -11,30 +11,24 @@ use Rattle.conversion.proofs.convert.Lts as lts
 use Rattle.conversion.proofs.take_to.Reads as take-to-reads
 use Rattle.projection.proofs.inverse.Reads as inverse-reads
 
--- src/lib.rt:59:11
 inverse-requires : tie.Need-inverse-requires
 inverse-requires c κs = search needs
 
--- src/lib.rt:60:32
 enum-known-n : tie.Need-enum-known-n
 enum-known-n c = search needs
 
--- src/lib.rt:61:30
 enum-known-b : tie.Need-enum-known-b
 enum-known-b c = search needs
 
--- src/lib.rt:61:39
 take-to-requires : tie.Need-take-to-requires
 take-to-requires c κs = search needs
 
--- src/lib.rt:56:1
 returns : tie.Need-returns
 returns c =
     let b = c .before .before .before .before in
     sym (inverse-refused (b .args .source) (b .args .target) _ (b .args .x) (b .args .y)
     (sym (c .before .before .before .inverse .ensures ∙ ap₂ (worked-inverse (b .args .source)) (toZ-ofZ (b .fits .x)) (toZ-ofZ (b .fits .y))) ∙ ap inverse-paper (c .before .n .given .1)))
 
--- src/lib.rt:56:1
 returns-2 : tie.Need-returns-2
 returns-2 c =
     let b = c .before .before .before .before .before in

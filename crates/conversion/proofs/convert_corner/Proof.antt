@@ -8,39 +8,30 @@ use Rattle.conversion.proofs.convert_corner.Reads as reads
 use Rattle.conversion.proofs.convert_corner.Lts as lts
 use Rattle.conversion.proofs.convert.Reads as convert-reads
 
--- src/lib.rt:96:37
 mul-convert : tie.Need-mul-convert
 mul-convert c = search needs
 
--- src/lib.rt:96:29
 mul-convert-2 : tie.Need-mul-convert-2
 mul-convert-2 c = search needs
 
--- src/lib.rt:96:29
 shared-slice-copy-out-convert : tie.Need-shared-slice-copy-out-convert
 shared-slice-copy-out-convert c = search needs
 
--- src/lib.rt:96:53
 mul-convert-3 : tie.Need-mul-convert-3
 mul-convert-3 c = search needs
 
--- src/lib.rt:96:53
 add-convert : tie.Need-add-convert
 add-convert c = search needs
 
--- src/lib.rt:96:45
 mul-convert-4 : tie.Need-mul-convert-4
 mul-convert-4 c = search needs
 
--- src/lib.rt:96:45
 shared-slice-copy-out-convert-2 : tie.Need-shared-slice-copy-out-convert-2
 shared-slice-copy-out-convert-2 c = search needs
 
--- src/lib.rt:96:5
 convert-requires : tie.Need-convert-requires
 convert-requires c κs = search needs
 
--- src/lib.rt:92:1
 returns : tie.Need-returns
 returns c =
     let b = c .before .before .before in

@@ -28,15 +28,12 @@ inside c = let e = half (c .before .before .pre) in let h = c .loop-test .taken 
 loop-holds : tie.Need-loop-holds Inv-loop μ-loop
 loop-holds c = start-converting (carried (c .args .source) (c .args .target)) (pairs (c .args .corners .now)) _ (search needs)
 
--- src/lib.rt:108:15
 convert-corner-requires : tie.Need-convert-corner-requires Inv-loop μ-loop
 convert-corner-requires c κs = (c .before .before .pre, inside c)
 
--- src/lib.rt:109:34
 enum-known-n : tie.Need-enum-known-n Inv-loop μ-loop
 enum-known-n c = search needs
 
--- src/lib.rt:110:17
 returns : tie.Need-returns Inv-loop μ-loop
 returns c =
     let s = c .before .before .before .before .before .before in
@@ -46,47 +43,36 @@ returns c =
           (sym (c .before .before .before .convert-corner .ensures) ∙ ap plane-paper (c .before .n .given .1))),
     )
 
--- src/lib.rt:116:29
 enum-known-x : tie.Need-enum-known-x Inv-loop μ-loop
 enum-known-x c = search needs
 
--- src/lib.rt:117:25
 mul-numbers : tie.Need-mul-numbers Inv-loop μ-loop
 mul-numbers c = search needs
 
--- src/lib.rt:117:17
 mul-numbers-2 : tie.Need-mul-numbers-2 Inv-loop μ-loop
 mul-numbers-2 c = search needs
 
--- src/lib.rt:117:17
 array-set-from-numbers : tie.Need-array-set-from-numbers Inv-loop μ-loop
 array-set-from-numbers c = search needs
 
--- src/lib.rt:118:25
 mul-numbers-3 : tie.Need-mul-numbers-3 Inv-loop μ-loop
 mul-numbers-3 c = search needs
 
--- src/lib.rt:118:25
 add-numbers : tie.Need-add-numbers Inv-loop μ-loop
 add-numbers c = search needs
 
--- src/lib.rt:118:17
 mul-numbers-4 : tie.Need-mul-numbers-4 Inv-loop μ-loop
 mul-numbers-4 c = search needs
 
--- src/lib.rt:118:17
 array-set-from-numbers-2 : tie.Need-array-set-from-numbers-2 Inv-loop μ-loop
 array-set-from-numbers-2 c = search needs
 
--- src/lib.rt:121:9
 add-i : tie.Need-add-i Inv-loop μ-loop
 add-i c = search needs
 
--- src/lib.rt:107:5
 loop-less : tie.Need-loop-less Inv-loop μ-loop
 loop-less c = search needs
 
--- src/lib.rt:107:5
 loop-again : tie.Need-loop-again Inv-loop μ-loop
 loop-again c =
     let s = c .before .before .before .before .before .before in
@@ -96,7 +82,6 @@ loop-again c =
     (convert-more (carried (s .args .source) (s .args .target)) (pairs (s .args .corners .now)) _ _ _ _ (t .before .loop .inv) (inside t) (s .pre .at-most)
     (sym (c .before .before .before .convert-corner .ensures) ∙ ap plane-paper (c .before .x .given .1)))
 
--- src/lib.rt:100:1
 returns-2 : tie.Need-returns-2 Inv-loop μ-loop
 returns-2 c =
     let s = c .before .before in (

@@ -9,34 +9,27 @@ use Rattle.conversion.proofs.convert_ring.Lts as lts
 use Rattle.conversion.proofs.check_codes.Reads as check-codes-reads
 use Rattle.conversion.proofs.move_ring.Reads as move-ring-reads
 
--- src/lib.rt:170:11
 check-codes-requires : tie.Need-check-codes-requires
 check-codes-requires c κs = search needs
 
--- src/lib.rt:171:26
 enum-known-n : tie.Need-enum-known-n
 enum-known-n c = search needs
 
--- src/lib.rt:172:63
 enum-told : tie.Need-enum-told
 enum-told c = search needs
 
--- src/lib.rt:172:28
 move-ring-requires : tie.Need-move-ring-requires
 move-ring-requires c κs = search needs
 
--- src/lib.rt:166:1
 returns : tie.Need-returns
 returns c =
     let s = c .before .before .before .before in
     on-refusal _ (s .args .output .now)
     (ring-codes-refused (s .args .source) (s .args .target) (s .args .corners .now) (s .args .output .now) _ (sym (c .before .before .before .check-codes .ensures) ∙ ap verdict-paper (c .before .n .given .1)))
 
--- src/lib.rt:166:1
 same-length : tie.Need-same-length
 same-length c = search needs
 
--- src/lib.rt:166:1
 returns-2 : tie.Need-returns-2
 returns-2 c =
     let s = c .before .before .before .before .before .before in

@@ -20,23 +20,18 @@ Inv-loop numbers output₀ count i₀ output i = Copying numbers output₀ outpu
 abbrev μ-loop : tie.MeasureT-loop
 μ-loop numbers output₀ count i₀ output i = count - i
 
--- src/lib.rt:136:5
 loop-holds : tie.Need-loop-holds Inv-loop μ-loop
 loop-holds c = start-copying _ _ _
 
--- src/lib.rt:137:21
 mul-output : tie.Need-mul-output Inv-loop μ-loop
 mul-output c = search needs
 
--- src/lib.rt:137:21
 shared-slice-copy-out-output : tie.Need-shared-slice-copy-out-output Inv-loop μ-loop
 shared-slice-copy-out-output c = let h = c .loop-test .taken in let p = c .before .before .pre .0 in omega arith
 
--- src/lib.rt:137:9
 mul-t9 : tie.Need-mul-t9 Inv-loop μ-loop
 mul-t9 c = search needs
 
--- src/lib.rt:137:9
 slice-set-from-output : tie.Need-slice-set-from-output Inv-loop μ-loop
 slice-set-from-output c =
     let h = c .before .loop-test .taken in
@@ -44,26 +39,21 @@ slice-set-from-output c =
     let s = c .before .before .loop .inv .size in
     omega arith
 
--- src/lib.rt:138:9
 add-i : tie.Need-add-i Inv-loop μ-loop
 add-i c = search needs
 
--- src/lib.rt:136:5
 loop-less : tie.Need-loop-less Inv-loop μ-loop
 loop-less c = search needs
 
--- src/lib.rt:136:5
 loop-again : tie.Need-loop-again Inv-loop μ-loop
 loop-again c =
     let f : SFits w64 (getD (c .before .before .before .args .numbers .now) (c .before .before .loop .i) (pos 0)) = record { sfits = search needs } in
     rw (toZ-ofZ f)
     (copy-more _ _ _ _ _ (c .before .before .loop .inv) (c .before .loop-test .taken) (c .before .before .before .pre .0) (c .before .before .before .pre .1))
 
--- src/lib.rt:131:1
 same-length : tie.Need-same-length Inv-loop μ-loop
 same-length c = c .before .loop .inv .size
 
--- src/lib.rt:131:1
 returns : tie.Need-returns Inv-loop μ-loop
 returns c = copy-end _ _ _ _ _ (c .before .loop .inv) (c .loop-test .left)
 

@@ -18,7 +18,6 @@ use Rattle.conversion.proofs.convert_corners.Reads as convert-corners-r
 use Rattle.conversion.proofs.copy_numbers.Reads as copy-numbers-reads
 use Rattle.rings.proofs.ring_refusal.Reads as ring-refusal-reads
 
--- src/lib.rt:148:9
 ring-refusal-requires : tie.Need-ring-refusal-requires
 ring-refusal-requires c κs = search needs
 
@@ -33,18 +32,15 @@ returns c =
     on-refusal _ (s .args .output .now)
     (ring-refused (s .args .source) (s .args .target) (s .args .corners .now) (s .args .output .now) _ (not-accepted (s .args .corners .now) (subst (λ n. 0 < n) e (c .if1 .taken)) ∙ ap refused (sym e)))
 
--- src/lib.rt:153:9
 returns-2 : tie.Need-returns-2
 returns-2 c =
     let s = c .before .before .before in
     let a = passes (c .before) in
     on-refusal 14 (s .args .output .now) (output-short (s .args .source) (s .args .target) (s .args .corners .now) (s .args .output .now) _ (a .0) (c .if2 .taken))
 
--- src/lib.rt:155:9
 convert-corners-requires : tie.Need-convert-corners-requires
 convert-corners-requires c κs = passes (c .before) .1
 
--- src/lib.rt:157:9
 returns-3 : tie.Need-returns-3
 returns-3 c =
     let s = c .before .before .before .before .before in
@@ -53,11 +49,9 @@ returns-3 c =
     (all-corners (s .args .source) (s .args .target) (s .args .corners .now) (s .args .output .now) _ (a .0) (c .before .before .if2 .left)
     ∙ sym (c .before .convert-corners .ensures .1) ∙ outcome-refused (c .before .convert-corners .result .refused) (c .before .convert-corners .result .number) (take (length (s .args .corners .now)) (c .before .convert-corners .result .numbers)) (c .if3 .taken))
 
--- src/lib.rt:160:18
 slice-aggregate-copy-numbers : tie.Need-slice-aggregate-copy-numbers
 slice-aggregate-copy-numbers c = search needs
 
--- src/lib.rt:160:5
 copy-numbers-requires : tie.Need-copy-numbers-requires
 copy-numbers-requires c κs =
     let a = passes (c .before .before .before .before .before .before) .1 in
@@ -67,11 +61,9 @@ copy-numbers-requires c κs =
     let m = a .at-most in
     (omega arith, h)
 
--- src/lib.rt:144:1
 same-length : tie.Need-same-length
 same-length c = search needs
 
--- src/lib.rt:144:1
 returns-4 : tie.Need-returns-4
 returns-4 c =
     let s = c .before .before .before .before .before .before .before .before .before .before in

@@ -10,29 +10,23 @@ use Rattle.conversion.proofs.plane_to_plane.Lts as lts
 use Rattle.conversion.proofs.check_codes.Reads as check-codes-reads
 use Rattle.conversion.proofs.convert.Reads as convert-reads
 
--- src/lib.rt:69:11
 check-codes-requires : tie.Need-check-codes-requires
 check-codes-requires c κs = search needs
 
--- src/lib.rt:70:26
 enum-known-n : tie.Need-enum-known-n
 enum-known-n c = search needs
 
--- src/lib.rt:71:28
 enum-told : tie.Need-enum-told
 enum-told c = search needs
 
--- src/lib.rt:71:28
 convert-requires : tie.Need-convert-requires
 convert-requires c κs = search needs
 
--- src/lib.rt:66:1
 returns : tie.Need-returns
 returns c =
     let b = c .before .before .before .before in
     sym (codes-refused (b .args .source) (b .args .target) _ (b .args .x) (b .args .y) (sym (c .before .before .before .check-codes .ensures) ∙ ap verdict-paper (c .before .n .given .1)))
 
--- src/lib.rt:66:1
 returns-2 : tie.Need-returns-2
 returns-2 c =
     let b = c .before .before .before .before in

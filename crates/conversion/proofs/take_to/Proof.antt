@@ -13,7 +13,6 @@ use Rattle.conversion.proofs.take_to.Reads as reads
 use Rattle.conversion.proofs.take_to.Lts as lts
 use Rattle.projection.proofs.forward_plane.Reads as forward-plane-reads
 
--- src/lib.rt:50:9
 abbrev at : ℤ → ℤ → Answer Corner
 at X Y = answered (record { x = X; y = Y })
 
@@ -23,11 +22,9 @@ returns c =
     ap₂ at (toZ-ofZ (b .fits .x)) (toZ-ofZ (b .fits .y))
     ∙ sym (same-codes (b .args .source) (b .args .target) (b .args .x) (b .args .y) _ (c .if1 .taken))
 
--- src/lib.rt:52:5
 forward-plane-requires : tie.Need-forward-plane-requires
 forward-plane-requires c κs = search needs
 
--- src/lib.rt:46:1
 returns-2 : tie.Need-returns-2
 returns-2 c =
     let b = c .before .before in

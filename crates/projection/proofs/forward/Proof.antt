@@ -12,29 +12,23 @@ use Rattle.projection.proofs.forward.Lts as lts
 use Rattle.projection.proofs.forward_in.Reads as forward-in-reads
 use Rattle.systems.proofs.find_zone.Reads as find-zone-reads
 
--- src/lib.rt:49:11
 find-zone-requires : tie.Need-find-zone-requires
 find-zone-requires c κs = search needs
 
--- src/lib.rt:50:32
 enum-told : tie.Need-enum-told
 enum-told c = search needs
 
--- src/lib.rt:51:27
 enum-known-zone : tie.Need-enum-known-zone
 enum-known-zone c = search needs
 
--- src/lib.rt:51:36
 forward-in-requires : tie.Need-forward-in-requires
 forward-in-requires c κs = subst (Found (c .before .before .before .before .args .code)) (c .before .zone .given .1) (c .before .before .before .find-zone .ensures)
 
--- src/lib.rt:46:1
 returns : tie.Need-returns
 returns c =
     let b = c .before .before .before in
     sym (no-system (b .args .code) (b .args .b) (b .args .l) 1 (subst (Found (b .args .code)) (c .enum-told .given .1) (c .before .before .find-zone .ensures)))
 
--- src/lib.rt:46:1
 returns-2 : tie.Need-returns-2
 returns-2 c =
     let b = c .before .before .before .before .before in

@@ -27,34 +27,28 @@ module _ (c : tie.After-longitude-refused) where
   longitude-is : c .longitude-refused .result ≡ longitude-bad (c .before .before .before .pre .0) (c .before .before .before .args .l)
   longitude-is = let f = c .before .before .before .pre in c .longitude-refused .ensures (f .0) (f .2) ∙ ap (longitude-bad (f .0)) (toZ-ofZ (c .before .before .before .fits .l))
 
--- src/lib.rt:36:8
 latitude-refused-requires : tie.Need-latitude-refused-requires
 latitude-refused-requires c κs = search needs
 
--- src/lib.rt:37:9
 returns : tie.Need-returns
 returns c =
     let b = c .before .before in
     sym (latitude-refused (b .args .code) (b .args .b) (b .args .l) (b .pre .0) (b .pre .1) (sym (latitude-is (c .before)) ∙ c .if1 .taken))
 
--- src/lib.rt:39:8
 longitude-refused-requires : tie.Need-longitude-refused-requires
 longitude-refused-requires c κs = search needs
 
--- src/lib.rt:40:9
 returns-2 : tie.Need-returns-2
 returns-2 c =
     let b = c .before .before .before .before in
     sym (longitude-refused (b .args .code) (b .args .b) (b .args .l) (b .pre .0) (b .pre .1) (sym (latitude-is (c .before .before .before)) ∙ c .before .before .if1 .left) (sym (longitude-is (c .before)) ∙ c .if2 .taken))
 
--- src/lib.rt:42:5
 point-at-requires : tie.Need-point-at-requires
 point-at-requires c κs =
     let b = c .before .before .before .before in
     rw (toZ-ofZ (b .fits .b), toZ-ofZ (b .fits .l))
     (taken-of (b .args .zone) (b .pre .0) (b .args .b) (b .args .l) (b .pre .2) (b .pre .3) (sym (latitude-is (c .before .before .before)) ∙ c .before .before .if1 .left) (sym (longitude-is (c .before)) ∙ c .if2 .left))
 
--- src/lib.rt:32:1
 returns-3 : tie.Need-returns-3
 returns-3 c =
     let b = c .before .before .before .before .before in

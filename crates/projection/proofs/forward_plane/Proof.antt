@@ -13,29 +13,23 @@ use Rattle.projection.proofs.forward_plane.Lts as lts
 use Rattle.projection.proofs.plane_in.Reads as plane-in-reads
 use Rattle.systems.proofs.find_zone.Reads as find-zone-reads
 
--- src/lib.rt:49:11
 find-zone-requires : tie.Need-find-zone-requires
 find-zone-requires c κs = search needs
 
--- src/lib.rt:50:32
 enum-told : tie.Need-enum-told
 enum-told c = search needs
 
--- src/lib.rt:51:27
 enum-known-zone : tie.Need-enum-known-zone
 enum-known-zone c = search needs
 
--- src/lib.rt:51:36
 plane-in-requires : tie.Need-plane-in-requires
 plane-in-requires c κs = subst (Found (c .before .before .before .before .args .code)) (c .before .zone .given .1) (c .before .before .before .find-zone .ensures)
 
--- src/lib.rt:46:1
 returns : tie.Need-returns
 returns c =
     let b = c .before .before .before in
     sym (ap plane-of (no-system (b .args .code) (b .args .b) (b .args .l) 1 (subst (Found (b .args .code)) (c .enum-told .given .1) (c .before .before .find-zone .ensures))))
 
--- src/lib.rt:46:1
 returns-2 : tie.Need-returns-2
 returns-2 c =
     let b = c .before .before .before .before .before in

@@ -1,4 +1,4 @@
--- 01, Refusal numbers and their order: "given exactly when". Each test of Points and Nozzle fails exactly where the paper's words hold; and the checks, one after
+-- 01, Refusal numbers and their order: "given exactly when". Each test of Points and RingAnswers fails exactly where the paper's words hold; and the checks, one after
 -- the other, as equations for a proof to rewrite by. Assumes nothing.
 use mathlib.Core.Path.{_≡_, refl, sym, subst}
 use mathlib.Core.Bool.{Bool, true, false, not, _||_}

@@ -1,4 +1,4 @@
--- `job::line::answer_line` meets its contract. Assumes nothing.
+-- `job_lines::line::answer_line` meets its contract. Assumes nothing.
 use Rattle.job_lines.proofs.Printing.{silent-said, field-said, nozzle-said, point-said, refused-said, crossed-said}
 use borrow.Author.Needs.{needs}
 use Rattle.job_lines.proofs.line.answer_line.Statement.{statement}

@@ -1,4 +1,4 @@
--- `job::line::end_line` meets its contract. Assumes nothing.
+-- `job_lines::line::end_line` meets its contract. Assumes nothing.
 use native.Mathlib.Omega.{arith}
 use Rattle.job_lines.proofs.Printing.{none, text-after, number-after, spoken}
 use borrow.Author.Needs.{needs}

@@ -1,4 +1,4 @@
--- `job::line::field_line` meets its contract. Assumes nothing.
+-- `job_lines::line::field_line` meets its contract. Assumes nothing.
 use native.Mathlib.Omega.{arith}
 use Rattle.job_state.specs.States.{line}
 use Rattle.job_lines.proofs.Printing.{none, text-after, number-after, whole-after, spoken}

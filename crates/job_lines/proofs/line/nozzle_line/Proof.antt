@@ -1,4 +1,4 @@
--- `job::line::nozzle_line` meets its contract. Assumes nothing.
+-- `job_lines::line::nozzle_line` meets its contract. Assumes nothing.
 use native.Mathlib.Omega.{arith}
 use Rattle.job_state.specs.States.{line}
 use Rattle.job_lines.proofs.Printing.{none, text-after, whole-after, spoken}

@@ -1,4 +1,4 @@
--- `job::ring::flatten` meets its contract. Assumes nothing.
+-- `job_state::ring::flatten` meets its contract. Assumes nothing.
 use Prim.Native.Nat.{_-_, _≤_}
 use mathlib.Core.Path.{_≡_, refl}
 use native.Mathlib.Omega.{arith}

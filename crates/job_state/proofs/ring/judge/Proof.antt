@@ -1,4 +1,4 @@
--- `job::ring::judge` meets its contract. Assumes nothing.
+-- `job_state::ring::judge` meets its contract. Assumes nothing.
 use Prim.Native.Nat.{_*_}
 use native.Mathlib.Omega.{arith}
 use mathlib.Core.Path.{_∙_, ap}

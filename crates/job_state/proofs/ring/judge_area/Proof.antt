@@ -1,4 +1,4 @@
--- `job::ring::judge_area` meets its contract. Assumes nothing.
+-- `job_state::ring::judge_area` meets its contract. Assumes nothing.
 use mathlib.Core.Path.{sym, ap, _∙_}
 use lib.IntN.{ℤ}
 use mir.Facts.{toZ-ofZ}

@@ -1,4 +1,4 @@
--- `job::ring::judge_flat` meets its contract. Assumes nothing.
+-- `job_state::ring::judge_flat` meets its contract. Assumes nothing.
 use Rattle.job_state.proofs.Flat.{clean-judged, crossed-judged, refused-judged}
 use borrow.Author.Needs.{needs}
 use Rattle.job_state.proofs.ring.judge_flat.Statement.{statement}

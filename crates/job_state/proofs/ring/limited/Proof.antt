@@ -1,4 +1,4 @@
--- `job::ring::limited` meets its contract. Assumes nothing.
+-- `job_state::ring::limited` meets its contract. Assumes nothing.
 use Rattle.job_state.proofs.Flat.{high, low, inside}
 use Rattle.job_state.proofs.ring.limited.Statement.{statement}
 use Rattle.job_state.proofs.ring.limited.Tie as tie

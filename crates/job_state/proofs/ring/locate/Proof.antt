@@ -1,4 +1,4 @@
--- `job::ring::locate` meets its contract. Assumes nothing.
+-- `job_state::ring::locate` meets its contract. Assumes nothing.
 use Prim.Native.Nat.{_*_}
 use native.Mathlib.Omega.{arith}
 use Rattle.job_state.proofs.Flat.{ring-within, located-back, part}

@@ -1,4 +1,4 @@
--- `job::state::counted` meets its contract. Assumes nothing.
+-- `job_state::state::counted` meets its contract. Assumes nothing.
 use borrow.Author.Tests.{lt-ltb, le-ltb}
 use Rattle.job_state.proofs.state.counted.Statement.{statement}
 use Rattle.job_state.proofs.state.counted.Tie as tie

@@ -1,4 +1,4 @@
--- `job::state::nozzle_answer` meets its contract. Assumes nothing.
+-- `job_state::state::nozzle_answer` meets its contract. Assumes nothing.
 use Rattle.job_state.specs.declared.state.Position.the-variants.{Open, Border, Shut}
 use mathlib.Core.Path.{refl}
 use Rattle.job_state.proofs.Steps.{nozzle-is, none-accepted}

@@ -1,4 +1,4 @@
--- `job::state::outside` meets its contract. Assumes nothing.
+-- `job_state::state::outside` meets its contract. Assumes nothing.
 use Rattle.job_state.proofs.Limits.{high, other}
 use Rattle.job_state.proofs.state.outside.Statement.{statement}
 use Rattle.job_state.proofs.state.outside.Tie as tie

@@ -1,4 +1,4 @@
--- `job::state::point_answer` meets its contract. Assumes nothing.
+-- `job_state::state::point_answer` meets its contract. Assumes nothing.
 use Rattle.job_state.proofs.Steps.{point-is, point-refused}
 use borrow.Author.Needs.{needs}
 use Rattle.job_state.proofs.state.point_answer.Statement.{statement}

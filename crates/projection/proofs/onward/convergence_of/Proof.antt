@@ -53,23 +53,18 @@ module _ (c : tie.After-sided) where
   angle-is : toZ w64 (ofZ w64 (c .sided .result)) ≡ angle
   angle-is = ap (λ z. toZ w64 (ofZ w64 z)) (c .sided .ensures ∙ ap (turned (west (c .before))) (east-is (c .before))) ∙ v-in w64 angle angle-small tt .is
 
--- src/onward.rt:132:9
 turn60-requires : tie.Need-turn60-requires
 turn60-requires c κs = search needs
 
--- src/onward.rt:133:9
 convergence60-requires : tie.Need-convergence60-requires
 convergence60-requires c κs = search needs
 
--- src/onward.rt:134:9
 sided-requires : tie.Need-sided-requires
 sided-requires c κs = subst (λ x. natAbs x ≤ S60 / 2) (sym (east-is c)) (east-small c)
 
--- src/onward.rt:135:5
 convergence-units-requires : tie.Need-convergence-units-requires
 convergence-units-requires c κs = subst (λ x. natAbs x ≤ S60 / 2) (sym (angle-is c)) (angle-small c)
 
--- src/onward.rt:128:1
 returns : tie.Need-returns
 returns c = toZ-ofZ (record { sfits = c .convergence-units .ok }) ∙ c .convergence-units .ensures .0 ∙ ap convergence-units (angle-is (c .before)) ∙ ap (λ t. convergence-units (turned (west (c .before .before)) (convergence60 t (back (c .before .before)) (slope (c .before .before))))) (c .before .before .before .turn60 .ensures .0)
 

@@ -21,19 +21,15 @@ use Rattle.projection.proofs.onward.corner_of.Lts as lts
 use Rattle.projection.proofs.steps.after_scale.Reads as after-scale-reads
 use Rattle.projection.proofs.steps.beside.Reads as beside-reads
 
--- src/onward.rt:45:9
 after-scale-requires : tie.Need-after-scale-requires
 after-scale-requires c κs = search needs
 
--- src/onward.rt:46:9
 after-scale-requires-2 : tie.Need-after-scale-requires-2
 after-scale-requires-2 c κs = search needs
 
--- src/onward.rt:47:9
 beside-requires : tie.Need-beside-requires
 beside-requires c κs = search needs
 
--- src/onward.rt:48:9
 beside-requires-2 : tie.Need-beside-requires-2
 beside-requires-2 c κs = search needs
 

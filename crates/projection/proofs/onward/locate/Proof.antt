@@ -39,22 +39,18 @@ fits-of n l = let h = l .high in record { fits = omega arith }
 natural : (z : ℤ) (n : ℕ) → z ≡ pos n → Fits w64 n → T (nonNeg z) × Fits w64 (natAbs z)
 natural z n e f = rw e (tt, f)
 
--- src/onward.rt:66:9
 side-of-requires : tie.Need-side-of-requires
 side-of-requires c κs = rw (d-is (c .before)) (c .before .pre .longitude)
 
--- src/onward.rt:67:62
 cast-mercator60 : tie.Need-cast-mercator60
 cast-mercator60 c = let s = c .before .before in natural _ (natAbs (s .args .b)) (b-is s ∙ b-taken s .0) (fits-of (natAbs (s .args .b)) (b-taken s .1))
 
--- src/onward.rt:67:9
 mercator60-requires : tie.Need-mercator60-requires
 mercator60-requires c κs =
     let s = c .before .before in
     let l = b-taken s .1 in
     (rw (b-is s) (l .low), rw (b-is s) (l .high), rw (c .side-of .ensures .1 ∙ ap natAbs (d-is s)) (s .pre .longitude))
 
--- src/onward.rt:62:1
 returns : tie.Need-returns
 returns c =
     let s = c .before .before .before in

@@ -63,23 +63,18 @@ answer : (z : Zone) (b l : ℤ) (w v : Bool) (p q : Pair) (s : System) → p ≡
     ≡ At (z .north +ℤ scaled-part (natAbs (z .millionths)) (value (q .re))) (z .east +ℤ turned v (scaled-part (natAbs (z .millionths)) (value (q .im))))
 answer z b l w v p q s e f = ap₂ (λ (p : Pair) (w : Bool). At (z .north +ℤ scaled-part (natAbs (z .millionths)) (value (p .re))) (z .east +ℤ turned w (scaled-part (natAbs (z .millionths)) (value (p .im))))) e f
 
--- src/onward.rt:79:9
 locate-requires : tie.Need-locate-requires
 locate-requires c κs = search needs
 
--- src/onward.rt:81:9
 plane-pair-requires : tie.Need-plane-pair-requires
 plane-pair-requires c κs = search needs
 
--- src/onward.rt:82:8
 is-finite-pair-requires : tie.Need-is-finite-pair-requires
 is-finite-pair-requires c κs = search needs
 
--- src/onward.rt:83:9
 corner-of-requires : tie.Need-corner-of-requires
 corner-of-requires c κs = (c .before .before .before .before .before .before .pre .sized, pair-tame (c .before .before))
 
--- src/onward.rt:83:9
 returns : tie.Need-returns
 returns c s h =
     let a = c .before .before .before .before in
@@ -90,7 +85,6 @@ returns c s h =
     ∙ answer z (b a) l _ _ _ _ s (pair-is a) (located a .side)
     ∙ ap₂ At (X-stands z s h (b a) l) (Y-stands z s h (b a) l)
 
--- src/onward.rt:75:1
 returns-2 : tie.Need-returns-2
 returns-2 c s h =
     let z : _≡_ {A = ℕ} 0 1 = let e : _≡_ {A = Bool} true false = sym (passes (c .before .before .plane-pair .result) (pair-tame (c .before .before) .numbers)) ∙ sym (c .before .is-finite-pair .ensures) ∙ c .if1 .left in cc in

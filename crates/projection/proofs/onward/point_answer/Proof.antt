@@ -45,23 +45,18 @@ convergence-there {r} {west} {slope} E n d h i e f =
     ap₂ (λ w t. convergence-units (turned w (convergence60 t (below-nought (h .im)) slope))) e (turn-is E n (natAbs d) i)
     ∙ ap (λ k. convergence-units (turned (below-zero d) (convergence60 (turn-of E n (natAbs d)) (below-nought (h .im)) k))) f
 
--- src/onward.rt:143:9
 corner-of-requires : tie.Need-corner-of-requires
 corner-of-requires c κs = search needs
 
--- src/onward.rt:144:9
 slope-parts-requires : tie.Need-slope-parts-requires
 slope-parts-requires c κs = search needs
 
--- src/onward.rt:145:9
 scale-of-requires : tie.Need-scale-of-requires
 scale-of-requires c κs = search needs
 
--- src/onward.rt:146:9
 convergence-of-requires : tie.Need-convergence-of-requires
 convergence-of-requires c κs = search needs
 
--- src/onward.rt:139:1
 returns : tie.Need-returns
 unfolding ofBits
 returns c n d at =

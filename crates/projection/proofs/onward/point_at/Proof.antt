@@ -82,34 +82,27 @@ module _ (c : tie.After-slope-pair) where
   slope-sloped : Sloped (c .slope-pair .result)
   slope-sloped = subst Sloped (sym slope-is) (point-sloped (which (zone .krasovsky)) (natAbs b) d latitude (start .pre .longitude))
 
--- src/onward.rt:155:9
 locate-requires : tie.Need-locate-requires
 locate-requires c κs = search needs
 
--- src/onward.rt:157:9
 plane-pair-requires : tie.Need-plane-pair-requires
 plane-pair-requires c κs = search needs
 
--- src/onward.rt:158:9
 slope-pair-requires : tie.Need-slope-pair-requires
 slope-pair-requires c κs = search needs
 
--- src/onward.rt:159:8
 is-finite-pair-requires : tie.Need-is-finite-pair-requires
 is-finite-pair-requires c κs = search needs
 
--- src/onward.rt:160:12
 is-finite-pair-requires-2 : tie.Need-is-finite-pair-requires-2
 is-finite-pair-requires-2 c κs = search needs
 
--- src/onward.rt:161:13
 point-answer-requires : tie.Need-point-answer-requires
 point-answer-requires c κs =
     let a = c .before .before .before .before in
     let m = located a in
     (start a .pre .sized, pair-tame a, slope-numbers a, slope-sloped a, m .sphere-sizes, m .across-small)
 
--- src/onward.rt:161:13
 returns : tie.Need-returns
 returns c s h =
     let a = c .before .before .before .before .before in
@@ -122,14 +115,12 @@ returns c s h =
     (ap (scale-from (which (z .krasovsky)) (natAbs (b a)) (natAbs (d a))) (slope-is a) ∙ scale-stands z s h (b a) l)
     (ap (convergence-from (which (z .krasovsky)) (natAbs (b a)) (d a)) (slope-is a) ∙ convergence-stands z s h (b a) l)
 
--- src/onward.rt:151:1
 returns-2 : tie.Need-returns-2
 returns-2 c s h =
     let a = c .before .before .before .before in
     let z : _≡_ {A = ℕ} 0 1 = let e : _≡_ {A = Bool} true false = sym (passes (a .slope-pair .result) (slope-numbers a)) ∙ sym (c .before .is-finite-pair2 .ensures) ∙ c .if2 .left in cc in
     absurd (omega arith)
 
--- src/onward.rt:151:1
 returns-3 : tie.Need-returns-3
 returns-3 c s h =
     let a = c .before .before in

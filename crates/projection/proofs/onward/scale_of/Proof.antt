@@ -15,23 +15,18 @@ use Rattle.fixed_scale.proofs.scale60.Reads as scale60-reads
 use Rattle.fixed_scale.proofs.shape60.Reads as shape60-reads
 use Rattle.fixed_units.proofs.scale_units.Reads as scale-units-reads
 
--- src/onward.rt:111:9
 shape60-requires : tie.Need-shape60-requires
 shape60-requires c κs = search needs
 
--- src/onward.rt:112:9
 scale60-requires : tie.Need-scale60-requires
 scale60-requires c κs = search needs
 
--- src/onward.rt:113:5
 scale-units-requires : tie.Need-scale-units-requires
 scale-units-requires c κs = search needs
 
--- src/onward.rt:113:5
 cast-result : tie.Need-cast-result
 cast-result c = search needs
 
--- src/onward.rt:107:1
 returns : tie.Need-returns
 returns c =
     let k = c .before .before in

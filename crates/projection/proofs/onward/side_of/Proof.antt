@@ -29,31 +29,25 @@ module _ (c : tie.Start) where
 word : (n : ℕ) → n ≤ 19800000000 → Fits w64 n
 word n h = record { fits = omega arith }
 
--- src/onward.rt:27:13
 sub-d : tie.Need-sub-d
 sub-d c = d-fits c
 
--- src/onward.rt:31:21
 sub-t5 : tie.Need-sub-t5
 sub-t5 c = need-sub (v-num 0) (d-is (c .before)) tt
 
--- src/onward.rt:31:20
 cast-t6 : tie.Need-cast-t6
 cast-t6 c =
     let m = v-sub w64 (v-num 0) (d-is (c .before)) tt in
     subst (λ x. T (nonNeg x) × Fits w64 (natAbs x)) (sym (m .is)) (nonneg _ (minus-nonneg (z (c .before)) (lt-yes (d-is (c .before)) (v-num 0) (c .if1 .taken))), word _ (m .size))
 
--- src/onward.rt:29:9
 returns : tie.Need-returns
 returns c =
     let m = v-sub w64 (v-num 0) (d-is (c .before)) tt in
     (west-side (z (c .before)) (lt-yes (d-is (c .before)) (v-num 0) (c .if1 .taken)), ap natAbs (m .is) ∙ minus-size (z (c .before)))
 
--- src/onward.rt:36:16
 cast-t7 : tie.Need-cast-t7
 cast-t7 c = subst (λ x. T (nonNeg x) × Fits w64 (natAbs x)) (sym (d-is (c .before) .is)) (nonneg _ (lt-no (d-is (c .before)) (v-num 0) (c .if1 .left)), word _ (c .before .pre))
 
--- src/onward.rt:23:1
 returns-2 : tie.Need-returns-2
 returns-2 c = (east-side (z (c .before)) (lt-no (d-is (c .before)) (v-num 0) (c .if1 .left)), ap natAbs (d-is (c .before) .is))
 

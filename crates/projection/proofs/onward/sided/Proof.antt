@@ -9,16 +9,13 @@ use Rattle.projection.proofs.onward.sided.Tie as tie
 use Rattle.projection.proofs.onward.sided.Reads as reads
 use Rattle.projection.proofs.onward.sided.Lts as lts
 
--- src/onward.rt:122:16
 sub-result : tie.Need-sub-result
 sub-result c = need-sub (v-num 0) (v-arg (c .before .fits .angle) (c .before .pre)) tt
 
--- src/onward.rt:122:9
 returns : tie.Need-returns
 unfolding turned
 returns c = v-sub w64 (v-num 0) (v-arg (c .before .fits .angle) (c .before .pre)) tt .is ∙ +ℤ-idl (negℤ (c .before .args .angle)) ∙ turned-by (c .before .args .angle) (c .if1 .taken)
 
--- src/onward.rt:117:1
 returns-2 : tie.Need-returns-2
 unfolding turned
 returns-2 c = v-arg (c .before .fits .angle) (c .before .pre) .is ∙ turned-by (c .before .args .angle) (c .if1 .left)

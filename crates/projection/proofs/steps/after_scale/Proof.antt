@@ -24,7 +24,6 @@ use Rattle.projection.proofs.steps.after_scale.Lts as lts
 use Rattle.projection.proofs.steps.part_millimetres.Reads as part-millimetres-reads
 use Rattle.projection.proofs.steps.shortfall.Reads as shortfall-reads
 
--- src/steps.rt:62:9
 -- m0's millionths, as they are passed on, and their range
 given : (z : Zone) → Sized z → toZ w64 (ofZ w64 (z .millionths)) ≡ z .millionths
 given z h = v-in w64 (z .millionths) (h .millionths) tt .is
@@ -48,11 +47,9 @@ size z v h g = let m = h .millionths in millimetres-size (natAbs (z .millionths)
 shortfall-requires : tie.Need-shortfall-requires
 shortfall-requires c κs = let e = given (c .before .args .zone) (c .before .pre .0) in (rw e (positive (c .before .args .zone) (c .before .pre .0)), rw e (c .before .pre .0 .millionths))
 
--- src/steps.rt:63:5
 part-millimetres-requires : tie.Need-part-millimetres-requires
 part-millimetres-requires c κs = (c .before .before .pre .1, c .before .before .pre .2, rw (c .shortfall .ensures ∙ ap (λ z. 1000000 - natAbs z) (given (c .before .before .args .zone) (c .before .before .pre .0))) (short (c .before .before .args .zone) (c .before .before .pre .0)))
 
--- src/steps.rt:58:1
 returns : tie.Need-returns
 unfolding scaled-part
 returns c =

@@ -9,7 +9,6 @@ use Rattle.projection.proofs.steps.beside.Tie as tie
 use Rattle.projection.proofs.steps.beside.Reads as reads
 use Rattle.projection.proofs.steps.beside.Lts as lts
 
--- src/steps.rt:72:16
 minus-side : (m : Bool) (a b : ℤ) → m ≡ true → a -ℤ b ≡ a +ℤ turned m b
 unfolding turned
 minus-side m a b e = ap (λ t. a +ℤ turned t b) (sym e)
@@ -21,15 +20,12 @@ plus-side m a b e = ap (λ t. a +ℤ turned t b) (sym e)
 sub-result : tie.Need-sub-result
 sub-result c = need-sub (v-arg (c .before .fits .offset) (c .before .pre .0)) (v-arg (c .before .fits .part) (c .before .pre .1)) tt
 
--- src/steps.rt:72:9
 returns : tie.Need-returns
 returns c = v-sub w64 (v-arg (c .before .fits .offset) (c .before .pre .0)) (v-arg (c .before .fits .part) (c .before .pre .1)) tt .is ∙ minus-side (c .before .args .minus) (c .before .args .offset) (c .before .args .part) (c .if1 .taken)
 
--- src/steps.rt:74:5
 add-result : tie.Need-add-result
 add-result c = need-add (v-arg (c .before .fits .offset) (c .before .pre .0)) (v-arg (c .before .fits .part) (c .before .pre .1)) tt
 
--- src/steps.rt:67:1
 returns-2 : tie.Need-returns-2
 returns-2 c = v-add w64 (v-arg (c .before .fits .offset) (c .before .pre .0)) (v-arg (c .before .fits .part) (c .before .pre .1)) tt .is ∙ plus-side (c .before .args .minus) (c .before .args .offset) (c .before .args .part) (c .if1 .left)
 

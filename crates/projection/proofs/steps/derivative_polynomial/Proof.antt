@@ -12,19 +12,15 @@ use Rattle.projection.proofs.steps.derivative_polynomial.Lts as lts
 use Rattle.double.proofs.series.derivative_grs80.Reads as derivative-grs80-reads
 use Rattle.double.proofs.series.derivative_krasovsky.Reads as derivative-krasovsky-reads
 
--- src/steps.rt:21:9
 derivative-krasovsky-requires : tie.Need-derivative-krasovsky-requires
 derivative-krasovsky-requires c κs = search needs
 
--- src/steps.rt:21:9
 returns : tie.Need-returns
 returns c = c .derivative-krasovsky .ensures ∙ ap (λ k. horner (doubles unit (derivative (a-coefficients (constants (which k))))) (c .before .before .args .z)) (sym (c .before .if1 .taken))
 
--- src/steps.rt:23:5
 derivative-grs80-requires : tie.Need-derivative-grs80-requires
 derivative-grs80-requires c κs = search needs
 
--- src/steps.rt:17:1
 returns-2 : tie.Need-returns-2
 returns-2 c = c .derivative-grs80 .ensures ∙ ap (λ k. horner (doubles unit (derivative (a-coefficients (constants (which k))))) (c .before .before .args .z)) (sym (c .before .if1 .left))
 

@@ -12,19 +12,15 @@ use Rattle.projection.proofs.steps.forward_polynomial.Lts as lts
 use Rattle.double.proofs.series.forward_grs80.Reads as forward-grs80-reads
 use Rattle.double.proofs.series.forward_krasovsky.Reads as forward-krasovsky-reads
 
--- src/steps.rt:21:9
 forward-krasovsky-requires : tie.Need-forward-krasovsky-requires
 forward-krasovsky-requires c κs = search needs
 
--- src/steps.rt:21:9
 returns : tie.Need-returns
 returns c = c .forward-krasovsky .ensures ∙ ap (λ k. horner (doubles unit (a-coefficients (constants (which k)))) (c .before .before .args .z)) (sym (c .before .if1 .taken))
 
--- src/steps.rt:23:5
 forward-grs80-requires : tie.Need-forward-grs80-requires
 forward-grs80-requires c κs = search needs
 
--- src/steps.rt:17:1
 returns-2 : tie.Need-returns-2
 returns-2 c = c .forward-grs80 .ensures ∙ ap (λ k. horner (doubles unit (a-coefficients (constants (which k)))) (c .before .before .args .z)) (sym (c .before .if1 .left))
 

@@ -7,11 +7,9 @@ use Rattle.projection.proofs.steps.part_millimetres.Reads as reads
 use Rattle.projection.proofs.steps.part_millimetres.Lts as lts
 use Rattle.metres.proofs.millimetres_of.Reads as millimetres-of-reads
 
--- src/steps.rt:39:5
 millimetres-of-requires : tie.Need-millimetres-of-requires
 millimetres-of-requires c κs = (c .pre .0, part-small (value (c .args .p)) (c .pre .1), part-fits (value (c .args .p)) (c .args .short) (c .pre .1) (c .pre .2))
 
--- src/steps.rt:35:1
 returns : tie.Need-returns
 returns c = search needs
 

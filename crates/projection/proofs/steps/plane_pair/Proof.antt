@@ -34,15 +34,12 @@ east-is c = toZ-pos w64 (c .args .east) (let h = c .pre .1 in omega arith)
 cast-arguments : tie.Need-cast-arguments
 cast-arguments c = search needs
 
--- src/steps.rt:33:9
 arguments-requires : tie.Need-arguments-requires
 arguments-requires c κs = (rw (north-is c) (below (natAbs (c .args .north)) (c .pre .0)), rw (east-is c) (below (c .args .east) (c .pre .1)))
 
--- src/steps.rt:34:5
 forward-polynomial-requires : tie.Need-forward-polynomial-requires
 forward-polynomial-requires c κs = search needs
 
--- src/steps.rt:29:1
 returns : tie.Need-returns
 returns c =
     let b = c .before .before in

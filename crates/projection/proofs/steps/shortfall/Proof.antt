@@ -13,7 +13,6 @@ use Rattle.projection.proofs.steps.shortfall.Tie as tie
 use Rattle.projection.proofs.steps.shortfall.Reads as reads
 use Rattle.projection.proofs.steps.shortfall.Lts as lts
 
--- src/steps.rt:31:6
 sub-result : tie.Need-sub-result
 sub-result c = need-sub (v-num 1000000) (v-arg (c .fits .millionths) (c .pre .1)) tt
 
@@ -21,11 +20,9 @@ sub-result c = need-sub (v-num 1000000) (v-arg (c .fits .millionths) (c .pre .1)
 difference : (c : tie.Start) → toZ w64 (ofZ w64 (pos 1000000 -ℤ toZ w64 (ofZ w64 (c .args .millionths)))) ≡ pos (1000000 - natAbs (c .args .millionths))
 difference c = v-sub w64 (v-num 1000000) (v-arg (c .fits .millionths) (c .pre .1)) tt .is ∙ short-of (c .args .millionths) (c .pre .0) (c .pre .1)
 
--- src/steps.rt:31:5
 cast-result : tie.Need-cast-result
 cast-result c = subst (λ z. T (nonNeg z) × Fits w64 (natAbs z)) (sym (difference c)) (tt, record { fits = omega arith })
 
--- src/steps.rt:27:1
 returns : tie.Need-returns
 returns c = ap natAbs (difference c)
 

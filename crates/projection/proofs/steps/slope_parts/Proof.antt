@@ -29,19 +29,15 @@ smaller a u h = omega arith
 ratio : (a b : ℕ) → a ≤ 137 * 2 ^ 41 → 499000 * 2 ^ 41 ≤ b → 4 * a ≤ 5 * b
 ratio a b h k = omega arith
 
--- src/steps.rt:73:9
 scaled-requires : tie.Need-scaled-requires
 scaled-requires c κs = (c .pre .0 .re, lit≤ tt, small (natAbs (value (c .args .h .re))) double-unit double-unit-pos (c .pre .1 .first-high))
 
--- src/steps.rt:74:9
 scaled-requires-2 : tie.Need-scaled-requires-2
 scaled-requires-2 c κs = let b = c .before in (b .pre .0 .im, lit≤ tt, small (natAbs (value (b .args .h .im))) double-unit double-unit-pos (smaller (natAbs (value (b .args .h .im))) double-unit (b .pre .1 .second-high)))
 
--- src/steps.rt:75:9
 mul60-requires : tie.Need-mul60-requires
 mul60-requires c κs = let b = c .before .before in (rw (c .before .scaled .ensures) (le-trans (parted (b .args .h) (b .pre .1) .high) (lit≤ tt)), lit≤ tt)
 
--- src/steps.rt:76:9
 quot60-requires : tie.Need-quot60-requires
 quot60-requires c κs =
     let b = c .before .before .before in
@@ -49,7 +45,6 @@ quot60-requires c κs =
     rw (c .before .before .scaled .ensures, c .before .scaled2 .ensures)
     (le-trans (lit≤ tt) (p .low), le-trans (p .high) (lit≤ tt), ratio (second41 (b .args .h)) (first41 (b .args .h)) (p .second) (p .low))
 
--- src/steps.rt:68:1
 first-is : (h : Pair) (r a : ℕ) → r ≡ mul60 a grain → a ≡ first41 h → r ≡ first60 h
 unfolding first60
 first-is h r a e f = e ∙ ap (λ x. mul60 x grain) f

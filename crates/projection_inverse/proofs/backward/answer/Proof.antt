@@ -1,4 +1,4 @@
--- `projection::backward::answer` meets its contract. Assumes nothing.
+-- `projection_inverse::backward::answer` meets its contract. Assumes nothing.
 use mathlib.Core.Bool.{Bool}
 use mathlib.Core.Path.{_≡_, sym, ap, ap₂, _∙_, subst}
 use Prim.Native.Nat.{_≤_}

@@ -1,4 +1,4 @@
--- `projection::backward::beside_meridian` meets its contract. Assumes nothing.
+-- `projection_inverse::backward::beside_meridian` meets its contract. Assumes nothing.
 use mathlib.Core.Path.{ap, _∙_}
 use lib.IntN.{_+ℤ_}
 use mir.Syntax.{w64}

@@ -1,4 +1,4 @@
--- `projection::backward::centred` meets its contract. Assumes nothing.
+-- `projection_inverse::backward::centred` meets its contract. Assumes nothing.
 use mathlib.Core.Path.{sym, ap, _∙_}
 use Prim.Native.Nat.{ℕ, _*_, _^_}
 use lib.Dec.{lit≤}

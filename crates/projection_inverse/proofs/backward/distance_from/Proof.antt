@@ -1,4 +1,4 @@
--- `projection::backward::distance_from` meets its contract. Assumes nothing.
+-- `projection_inverse::backward::distance_from` meets its contract. Assumes nothing.
 use mathlib.Core.Path.{sym, ap, ap₂, _∙_, subst}
 use Prim.Native.Nat.{ℕ, _≤_}
 use native.Mathlib.Omega.{arith}

@@ -1,4 +1,4 @@
--- `projection::backward::from_plane` meets its contract. Assumes nothing.
+-- `projection_inverse::backward::from_plane` meets its contract. Assumes nothing.
 use mathlib.Core.Path.{_≡_, sym, ap, ap₂, _∙_, subst, subst₂}
 use Prim.Native.Nat.{ℕ, _≤_}
 use native.Mathlib.Omega.{arith}

@@ -1,4 +1,4 @@
--- `projection::backward::in_zone` meets its contract. Assumes nothing.
+-- `projection_inverse::backward::in_zone` meets its contract. Assumes nothing.
 use mathlib.Core.Path.{_≡_, sym, ap₂, _∙_, subst₂}
 use mir.Facts.{toZ-ofZ}
 use Rattle.rules.specs.Systems.{System}

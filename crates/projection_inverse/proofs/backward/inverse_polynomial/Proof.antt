@@ -1,4 +1,4 @@
--- `projection::backward::inverse_polynomial` meets its contract. Assumes nothing.
+-- `projection_inverse::backward::inverse_polynomial` meets its contract. Assumes nothing.
 use mathlib.Core.Path.{sym, ap, _∙_}
 use Rattle.rules.specs.Scaled.{unit}
 use Rattle.rules.specs.Systems.{constants, b-coefficients}

@@ -1,4 +1,4 @@
--- `projection::backward::judge` meets its contract: refusals 2 and 3 in their order. Assumes nothing.
+-- `projection_inverse::backward::judge` meets its contract: refusals 2 and 3 in their order. Assumes nothing.
 use mathlib.Core.Path.{_≡_, sym, ap, ap₂, _∙_}
 use lib.IntN.{ℤ}
 use mir.Facts.{toZ-ofZ}

@@ -1,4 +1,4 @@
--- `projection::backward::mercator_pair` meets its contract. Assumes nothing.
+-- `projection_inverse::backward::mercator_pair` meets its contract. Assumes nothing.
 use mathlib.Core.Path.{sym, ap, ap₂, _∙_, subst}
 use Prim.Native.Nat.{ℕ, _*_, _^_, _≤_, _<_}
 use native.Mathlib.Omega.{arith}

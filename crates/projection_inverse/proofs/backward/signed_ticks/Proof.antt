@@ -1,4 +1,4 @@
--- `projection::backward::signed_ticks` meets its contract. Assumes nothing.
+-- `projection_inverse::backward::signed_ticks` meets its contract. Assumes nothing.
 use mathlib.Core.Path.{_∙_}
 use lib.IntN.{pos, negℤ, +ℤ-idl}
 use mir.Syntax.{w64}

@@ -1,4 +1,4 @@
--- `projection::backward::undone` meets its contract: two divisions in place of one. Assumes nothing.
+-- `projection_inverse::backward::undone` meets its contract: two divisions in place of one. Assumes nothing.
 use Prim.Native.Nat.{ℕ, _+_, _*_, _%_, _/_, _^_, _≤_, _<_}
 use native.Mathlib.Omega.{arith}
 use Rattle.projection_worked.specs.Inverse.{undone30}

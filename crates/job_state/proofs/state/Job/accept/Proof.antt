@@ -1,4 +1,4 @@
--- `job::state::Job::accept` meets its contract. Assumes nothing.
+-- `job_state::state::Job::accept` meets its contract. Assumes nothing.
 use mathlib.Core.Path.{subst, sym}
 use Prim.Native.Nat.{ℕ, _≤_}
 use mir.Facts.{toZ-ofZ}

@@ -1,4 +1,4 @@
--- `job::state::Job::begin` meets its contract. Assumes nothing.
+-- `job_state::state::Job::begin` meets its contract. Assumes nothing.
 use Rattle.projection.specs.Worked.{worked-forward}
 use Rattle.job_state.proofs.Steps.{stepping-at, refusing, idle-begin, gathering-begin, accepted-begin}
 use borrow.Author.Needs.{needs}

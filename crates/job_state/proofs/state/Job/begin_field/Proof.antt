@@ -1,4 +1,4 @@
--- `job::state::Job::begin_field` meets its contract. Assumes nothing.
+-- `job_state::state::Job::begin_field` meets its contract. Assumes nothing.
 use native.Mathlib.Omega.{arith}
 use Rattle.job_state.proofs.Steps.{no-system, field-begun}
 use Rattle.job_state.proofs.state.Job.begin_field.Statement.{statement}

@@ -1,4 +1,4 @@
--- `job::state::Job::close` meets its contract. Assumes nothing.
+-- `job_state::state::Job::close` meets its contract. Assumes nothing.
 use Rattle.projection.specs.Worked.{worked-forward}
 use Rattle.job_state.proofs.Steps.{stepping-at, refusing, idle-close, gathering-close, accepted-close}
 use borrow.Author.Needs.{needs}

@@ -1,4 +1,4 @@
--- `job::state::Job::corner` meets its contract. Assumes nothing.
+-- `job_state::state::Job::corner` meets its contract. Assumes nothing.
 use Rattle.projection.specs.Worked.{worked-forward}
 use Rattle.rules.specs.JobFile.{cornered}
 use Rattle.job_state.proofs.Steps.{stepping-at, refusing, read-two, idle-corner, gathering-corner, accepted-corner}

@@ -1,4 +1,4 @@
--- `job::state::Job::gather` meets its contract. Assumes nothing.
+-- `job_state::state::Job::gather` meets its contract. Assumes nothing.
 use mathlib.Core.Path.{sym, ap, _∙_}
 use mir.Facts.{toZ-ofZ}
 use Rattle.rules.specs.RingAnswers.{number-bad}

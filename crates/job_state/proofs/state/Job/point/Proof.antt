@@ -1,4 +1,4 @@
--- `job::state::Job::point` meets its contract. Assumes nothing.
+-- `job_state::state::Job::point` meets its contract. Assumes nothing.
 use Rattle.projection.specs.Worked.{worked-forward}
 use Rattle.rules.specs.JobFile.{pointed}
 use Rattle.job_state.specs.States.{view}

@@ -1,4 +1,4 @@
--- `job::state::Job::query` meets its contract. Assumes nothing.
+-- `job_state::state::Job::query` meets its contract. Assumes nothing.
 use Rattle.projection.specs.Worked.{worked-forward}
 use Rattle.records.specs.declared.Record.the-variants.{Query}
 use Rattle.job_state.specs.States.{stepped, view}
