@@ -1,16 +1,15 @@
 -- A number of the definition that turns on the ticks h from the start of a band, followed as a polynomial in h and an error: for each operation of the definition, the
 -- model of its result. All of it computes, and what it says of a whole band is checked by computing. Assumes nothing.
-use mathlib.Core.Path.{_≡_, refl, sym, _∙_, ap, ap₂}
+use mathlib.Core.Path.{_≡_, refl, sym, _∙_, ap}
 use mathlib.Core.List.{List, [], _∷_}
 use Prim.Native.Nat.{ℕ, zero, suc, _+_, _*_, _-_, _/_, _^_, _<_, _≤_}
-use native.Mathlib.Omega.{arith}
-use lib.Dec.{T, leb, lit<}
-use lib.IntN.{ℤ, pos, negℤ, _+ℤ_, _-ℤ_, _*ℤ_, natAbs}
+use lib.Dec.{T, lit<}
+use lib.IntN.{ℤ, pos, negℤ, _+ℤ_, _-ℤ_, _*ℤ_}
 use Rattle.arith.specs.Ring.{ring, Z·ring, by-ring, ev-num}
 use Rattle.arith.specs.Floor.{floor}
 use Rattle.arith.specs.Within.{Within, w-num, w-add, w-sub, w-neg, w-mul}
 use Rattle.rules.specs.Scaled.{unit, one, product, nested, summed}
-use Rattle.fixed.specs.Laws.Bounds.{w-div, w-same, w-up, w-from, w-floor-rest}
+use Rattle.fixed.specs.Laws.Bounds.{w-div, w-same, w-floor-rest}
 use Rattle.fixed.specs.Laws.Nested.{all-positive, first-positive, rest-positive}
 use Rattle.fixed_bands.specs.Worked.{width}
 use Rattle.fixed_bands.specs.Polynomials.{at, reach, plus, multiple, times, negated, minus, cut, at-reach, at-plus, at-multiple, at-times, at-negated, at-minus}
