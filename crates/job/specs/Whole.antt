@@ -15,7 +15,7 @@ use Rattle.rules.specs.Refusals as rules
 use Rattle.rules.specs.Refusals.{_>>=_, answered, refused, crossed-at, kind-unknown, body-cut-off}
 use Rattle.rules.specs.Points as points
 use Rattle.rules.specs.JobFile.{Kind, begin-field, corner, close-ring, nozzle-query, point-to-plane, Row, kinds, find-kind, State, no-field, gathering, accepted, Step, step, Read, read, job-by}
-use Rattle.rules.specs.Proofs.Job.{after, from, job-from, from-end, from-record}
+use Rattle.rules.specs.Laws.Job.{after, from, job-from, from-end, from-record}
 use Rattle.records.specs.declared.Read as reader
 use Rattle.records.specs.declared.Read.the-variants.{Whole, Refused}
 use Rattle.records.specs.Kinds.{Found, here, nowhere, found}

@@ -20,7 +20,7 @@ use Rattle.rules.specs.Rings as ring
 use Rattle.rules.specs.RingAnswers as nozzles
 use Rattle.rules.specs.RingAnswers.{number-bad, count-bad, span-bad, not-crossed, nozzle}
 use Rattle.rules.specs.JobFile.{State, no-field, gathering, accepted, Step, silent, print, begun, cornered, closed, queried, pointed}
-use Rattle.rules.specs.Proofs.Codes.{known, unknown}
+use Rattle.rules.specs.Laws.Codes.{known, unknown}
 use Rattle.projection.specs.declared.ForwardAnswer as projected
 use Rattle.projection.specs.declared.ForwardAnswer.the-variants as projected-case
 use Rattle.projection.specs.Answers.{forward-paper}

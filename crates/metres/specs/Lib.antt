@@ -1,3 +1,4 @@
--- The root of the definitions.
+-- The definitions, and in Laws what is proved of them.
 pub mod Metres
 pub mod Millimetres
+pub mod Laws

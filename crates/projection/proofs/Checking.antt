@@ -8,14 +8,14 @@ use Rattle.rules.specs.Units.{_°_′_″}
 use Rattle.rules.specs.Refusals.{answered}
 use Rattle.rules.specs.Systems.{System, system}
 use Rattle.rules.specs.Points.{latitude-bad, longitude-bad}
-use Rattle.rules.specs.Proofs.Checks.{longitude-exact}
+use Rattle.rules.specs.Laws.Checks.{longitude-exact}
 use Rattle.systems.specs.Zones.{Stands, Sized}
 use Rattle.systems.specs.declared.Zone.{Zone}
 use Rattle.projection.specs.Located.{Taken}
 use Rattle.projection_worked.specs.Worked.{worked-point, worked-forward}
 use Rattle.projection.specs.Checked.{taken}
 use Rattle.projection.specs.declared.ForwardAnswer.the-variants.{Point}
-use Rattle.projection_worked.specs.Near.Finite.{latitude-taken, finite-taken}
+use Rattle.projection_worked.specs.Laws.Finite.{latitude-taken, finite-taken}
 
 pub within-reach : (z : Zone) (s : System) (l : ℤ) → Stands z s → Sized z → longitude-bad s l ≡ false → natAbs (l -ℤ z .meridian) ≤ 5 ° 30 ′ 0 ″
 within-reach z s l h k e =

@@ -8,7 +8,7 @@ use lib.IntN.{ℤ, pos, negsuc, natAbs, _-ℤ_}
 use lib.Signed.{_≤ℤ_}
 use Rattle.arith.specs.Diff.{_⊖_, Z·ℕ}
 use Rattle.rules.specs.Polynomial.{double-unit}
-use Rattle.double.proofs.Operations.{double-unit-pos}
+use Rattle.double.specs.Laws.Operations.{double-unit-pos}
 use Rattle.metres.specs.Millimetres.{Fits, truncated}
 
 pub part-small : (v : ℤ) → natAbs v ≤ 8000001 * double-unit → natAbs v < 2 ^ 44 * double-unit

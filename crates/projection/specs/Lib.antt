@@ -4,6 +4,5 @@ pub use Rattle.projection_worked.specs.Worked
 pub mod Checked
 pub mod Located
 pub mod Stood
-pub use Rattle.projection_worked.specs.Near
 pub use Rattle.projection_worked.specs.Inverse
 pub use Rattle.projection_worked.specs.Right

@@ -11,7 +11,7 @@ use Rattle.systems.specs.Zones.{Stands, Sized, ellipsoid-of}
 use Rattle.systems.specs.declared.Zone.{Zone}
 use Rattle.projection_worked.specs.Worked.{both-finite, millionths-of}
 use Rattle.projection_worked.specs.Inverse.{mercator-pair, worked-pair, worked-ticks, ticks-from, from-plane, in-system, InBox, Boxed}
-use Rattle.projection_worked.specs.Near.InverseBox.{Millionths, zone-millionths, same-millionths, boxed}
+use Rattle.projection_worked.specs.Laws.InverseBox.{Millionths, zone-millionths, same-millionths, boxed}
 
 -- Mercator's pair by the row
 abbrev pub row-pair : Zone → ℤ → ℤ → Pair

@@ -1,4 +1,4 @@
--- What the arithmetic gives for the inverse: one value for every input. How near it is to the definition is in Near.Inverse. Assumes nothing.
+-- What the arithmetic gives for the inverse: one value for every input. How near it is to the definition is in Laws.Inverse. Assumes nothing.
 use mathlib.Core.Bool.{Bool, true, false, not}
 use mathlib.Core.Path.{_≡_, refl, ap, _∙_}
 use Prim.Native.Nat.{ℕ, _*_, _/_, _^_, _≤_}

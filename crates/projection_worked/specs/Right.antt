@@ -2,8 +2,8 @@
 use Rattle.rules.specs.Points.{Right}
 use Rattle.projection_worked.specs.Worked.{forward-finite, worked-forward}
 use Rattle.projection_worked.specs.Inverse.{inverse-finite, worked-inverse}
-use Rattle.projection_worked.specs.Near.Point.{forward-right}
-use Rattle.projection_worked.specs.Near.Inverse.{inverse-right}
+use Rattle.projection_worked.specs.Laws.Point.{forward-right}
+use Rattle.projection_worked.specs.Laws.Inverse.{inverse-right}
 
 pub right : Right forward-finite inverse-finite worked-forward worked-inverse
 right = record { forward-right = forward-right; inverse-right = inverse-right }

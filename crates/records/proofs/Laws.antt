@@ -17,7 +17,7 @@ use mir.Val.{toZ, ofZ, SFits}
 use mir.Facts.{toZ-ofZ}
 use mir.ValLaws.{toZ-pos}
 use Rattle.rules.specs.JobFile.{signed, little-endian, number-at, code-of, Row, kind-row, begin-field, corner, close-ring, nozzle-query, point-to-plane, find-kind, kinds}
-use Rattle.rules.specs.Proofs.Job.{signed-low}
+use Rattle.rules.specs.Laws.Job.{signed-low}
 use Rattle.rules.specs.Refusals.{Answer, refused, kind-unknown, body-cut-off}
 use Rattle.records.specs.declared.Record as code
 use Rattle.records.specs.declared.Record.the-variants as case

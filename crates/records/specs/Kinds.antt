@@ -5,7 +5,7 @@ use Prim.Native.Nat.{ℕ, _≤_}
 use lib.Dec.{T, eqb, leb, leb→le}
 use Rattle.rules.specs.Refusals.{Answer, answered, refused, kind-unknown}
 use Rattle.rules.specs.JobFile.{Row, kinds, find-kind}
-use Rattle.rules.specs.Proofs.Meeting.{T-and}
+use Rattle.rules.specs.Laws.Meeting.{T-and}
 
 pub data Found : Answer Row → Type 0 where
   here : (k : Row) → k .body-length ≤ 17 → Found (answered k)

@@ -1,7 +1,7 @@
 -- What the contracts of ring_corners cite, and what is proved of it.
 --   Corners    a flat list of numbers as corners; what an accepted ring has
 --   Sides      the sign of D, and what an edge then adds to the turning number
---   Proofs     laws; not needed to read the contracts
+--   Laws       laws; not needed to read the contracts
 pub mod Corners
 pub mod Sides
-pub mod Proofs
+pub mod Laws

@@ -1,5 +1,5 @@
 -- What the contracts of ring_pairs cite, and what is proved of it.
 --   Crossings  the crossing test as the code makes it
---   Proofs     laws; not needed to read the contracts
+--   Laws       laws; not needed to read the contracts
 pub mod Crossings
-pub mod Proofs
+pub mod Laws

@@ -12,10 +12,10 @@ use Rattle.rules.specs.Refusals.{Answer, answered, refused, _>>=_}
 use Rattle.rules.specs.Rings.{Corner, Edge, edges, area2, turning-number, inner, outer, Share}
 use Rattle.rules.specs.RingAnswers.{ring-checks, area-answer, turning-answer}
 use Rattle.rules.specs.Demand.{Demand, demand}
-use Rattle.rules.specs.Proofs.RingChecks.{numbers-of}
+use Rattle.rules.specs.Laws.RingChecks.{numbers-of}
 use Rattle.rings.specs.Answers.{whole-paper, AreaCall, TurningCall}
 use Rattle.rings.specs.declared.WholeAnswer.{WholeAnswer}
-use Rattle.rings.specs.Proofs.Parts.{part-passes, at-most, inner-within, outer-within, inner-count, outer-count, reverse-within, reverse-count}
+use Rattle.rings.specs.Laws.Parts.{part-passes, at-most, inner-within, outer-within, inner-count, outer-count, reverse-within, reverse-count}
 
 -- the calls answer numbers, and the first is the sum of the others
 pub record Sum (w u v : WholeAnswer) : Type 0 where

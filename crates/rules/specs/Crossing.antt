@@ -1,4 +1,4 @@
--- The crossing test, by computing: `crossed r` is the first crossed pair of Rings, or none where there is none (Proofs.Pairs: crossed-some, crossed-none).
+-- The crossing test, by computing: `crossed r` is the first crossed pair of Rings, or none where there is none (Laws.Pairs: crossed-some, crossed-none).
 -- Not the paper's words: its words are Share, ShareOff, Crossing and First of Rings. Assumes nothing.
 use mathlib.Core.Bool.{Bool, true, false, not, cond, _&&_, _||_}
 use mathlib.Core.Option.{Option, none, some}

@@ -6,8 +6,8 @@ use Prim.Native.Nat.{ℕ, _<_}
 use lib.IntN.{ℤ, _+ℤ_, negℤ}
 use lib.ListN.{length}
 use Rattle.rules.specs.Rings.{Corner, Edge, edges, area2, turning-number, inner, outer, Share}
-use Rattle.rules.specs.Proofs.Sums.{turning-cut, area2-cut, turning-reverse, area2-reverse}
-use Rattle.rules.specs.Proofs.SameTurning.{same-turning}
+use Rattle.rules.specs.Laws.Sums.{turning-cut, area2-cut, turning-reverse, area2-reverse}
+use Rattle.rules.specs.Laws.SameTurning.{same-turning}
 
 pub record Demand : Type 0 where
   -- cut from corner i to corner j (neighbours or not): the whole is the sum of the parts, for every point

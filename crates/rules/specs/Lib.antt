@@ -8,7 +8,7 @@
 --   01, Refusal numbers and their order  Refusals (the numbers, and checks in order); each call's order stands in its own definition
 --   01, Numbers to try                   Numbers (P1 to P12), Tried (J, the bow tie, the numbers to run, a point of each code)
 --   demand 3                             Demand
--- Computing opens every definition at once, for statements by computation. Proofs holds what is proved of the rules, and is not needed to read them.
+-- Computing opens every definition at once, for statements by computation. Laws has what is proved of the rules, and is not needed to read them.
 pub mod Units
 pub mod Refusals
 pub mod Systems
@@ -26,4 +26,4 @@ pub mod Computing
 pub mod Numbers
 pub mod Tried
 pub mod Demand
-pub mod Proofs
+pub mod Laws

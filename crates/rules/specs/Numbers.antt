@@ -8,7 +8,7 @@ use lib.IntN.{ℤ, pos, negℤ}
 use Rattle.rules.specs.Rings.{Corner, First, edges, area2, turning-number, border, inner, outer}
 use Rattle.rules.specs.Crossing.{crossed}
 use Rattle.rules.specs.Computing.{computing}
-use Rattle.rules.specs.Proofs.Pairs.{crossed-some}
+use Rattle.rules.specs.Laws.Pairs.{crossed-some}
 
 abbrev pub at : ℕ → ℕ → Corner
 at x y = record { x = pos x; y = pos y }

@@ -1,4 +1,4 @@
--- 01, Rings: the rules, as the paper has them. The test that finds a crossed pair by computing is in Crossing, and Proofs.Pairs shows that it answers by
+-- 01, Rings: the rules, as the paper has them. The test that finds a crossed pair by computing is in Crossing, and Laws.Pairs shows that it answers by
 -- these rules. Assumes nothing.
 use mathlib.Core.Path.{_≡_}
 use mathlib.Core.Bool.{Bool, true, false, _&&_, _||_}

@@ -23,7 +23,7 @@ unfoldable pub quotient : ℤ → ℤ → ℤ
 quotient a (pos b) = floor (a *ℤ one) b
 quotient a (negsuc b) = floor (negℤ a *ℤ one) (suc b)
 
--- "Square roots are whole-number square roots": the largest r with r·r at most n, from that of a fourth of n (Proofs.Root shows it of every n).
+-- "Square roots are whole-number square roots": the largest r with r·r at most n, from that of a fourth of n (Laws.Root shows it of every n).
 -- The first argument only bounds how deep the recursion goes.
 unfoldable pub raised : ℕ → ℕ → ℕ
 raised n r = elim (leb ((r + 1) * (r + 1)) n) [ true ↦ r + 1 | false ↦ r ]

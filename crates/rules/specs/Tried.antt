@@ -128,7 +128,7 @@ pub record Runs : Type 0 where
   pub exact-1 : exact (pos 1 ∷ pos 2 ∷ pos 3 ∷ []) (record { first = pos double-unit; second = pos 0 }) ≡ record { first = pos (6 * double-unit ^ 2); second = pos 0 }
   pub exact-i : exact (pos 1 ∷ pos 2 ∷ pos 3 ∷ []) (record { first = pos 0; second = pos double-unit })
       ≡ record { first = negℤ (pos (2 * double-unit ^ 2)); second = pos (2 * double-unit ^ 2) }
-  -- "d = 0 gives Y = y0 exactly" (of every point: Proofs.Meridian)
+  -- "d = 0 gives Y = y0 exactly" (of every point: Laws.Meridian)
   pub d-0 : east (P.forward 14 (pos (52 ° 0 ′ 0 ″)) (pos (18 ° 57 ′ 30 ″))) ≡ pos 237_000_000
 
 pub runs : Runs

@@ -11,7 +11,7 @@ use Rattle.arith.specs.Ring.{ring, Z·ring, by-ring, ev-num, ev-nneg}
 use Rattle.rules.specs.Systems.{System}
 use Rattle.rules.specs.Scaled.{one}
 use Rattle.rules.specs.Points.{above, longitude-bad, plane-bad, metres-times-m0}
-use Rattle.rules.specs.Proofs.Checks.{ltZ-true, ltZ-false, or-true, or-false}
+use Rattle.rules.specs.Laws.Checks.{ltZ-true, ltZ-false, or-true, or-false}
 use Rattle.systems.specs.Zones.{beyond, Stands}
 use Rattle.systems.specs.declared.Zone.{Zone}
 

@@ -10,7 +10,7 @@ use Rattle.arith.specs.Order.{≤ℤ-antisym}
 use Rattle.rules.specs.Units.{millimetres-in-metre}
 use Rattle.rules.specs.Refusals.{Answer, answered}
 use Rattle.rules.specs.Systems.{System, Ellipsoid, GRS-80, Krasovsky, same-ellipsoid, system}
-use Rattle.rules.specs.Proofs.Meeting.{T-and}
+use Rattle.rules.specs.Laws.Meeting.{T-and}
 use Rattle.systems.specs.Zones.{Stands, Sized, Found, ellipsoid-of}
 use Rattle.systems.specs.declared.Zone.{Zone}
 use Rattle.systems.specs.declared.ZoneAnswer.the-variants.{Known}

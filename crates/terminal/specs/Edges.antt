@@ -12,9 +12,9 @@ use mir.Facts.{toZ-pos}
 use Rattle.rules.specs.Refusals.{Answer, answered, refused, crossed-at, Passed, _>>=_, _>>_}
 use Rattle.rules.specs.Rings.{Corner}
 use Rattle.rules.specs.RingAnswers.{ring-checks, not-crossed, crossing-answer, nozzle, nozzle-answer}
-use Rattle.rules.specs.Proofs.RingChecks.{nine}
+use Rattle.rules.specs.Laws.RingChecks.{nine}
 use Rattle.rings.specs.Corners.{pairs, Accepted}
-use Rattle.rings.specs.Proofs.Accept.{judgement}
+use Rattle.rings.specs.Laws.Accept.{judgement}
 
 -- ---- a number below 1,024 as an i64
 pub small-fits : {n : ℕ} → n < 1024 → SFits w64 (pos n)

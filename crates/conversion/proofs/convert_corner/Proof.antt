@@ -1,5 +1,5 @@
 use mathlib.Core.Path.{_≡_, _∙_, ap₂}
-use Rattle.rings.specs.Proofs.Flat.{x-read, y-read}
+use Rattle.rings.specs.Laws.Flat.{x-read, y-read}
 use Rattle.conversion.specs.Plane.{carried}
 use borrow.Author.Needs.{needs}
 use Rattle.conversion.proofs.convert_corner.Statement.{statement}

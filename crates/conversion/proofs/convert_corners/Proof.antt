@@ -5,7 +5,7 @@ use native.Mathlib.Omega.{arith}
 use lib.ListN.{length, getD}
 use mir.Facts.{toZ-ofZ}
 use Rattle.rings.specs.Corners.{pairs}
-use Rattle.rings.specs.Proofs.Flat.{half}
+use Rattle.rings.specs.Laws.Flat.{half}
 use Rattle.projection.specs.Answers.{plane-paper}
 use Rattle.conversion.specs.Plane.{carried}
 use Rattle.conversion.specs.Ring.{Converting, start-converting, convert-more, convert-refused, convert-end}

@@ -1,6 +1,6 @@
 -- `double::is_finite` meets its contract. Assumes nothing.
 use lib.Ieee.{ofBits}
-use Rattle.double.proofs.Never.{subtracted}
+use Rattle.double.specs.Laws.Never.{subtracted}
 use Rattle.double.proofs.is_finite.Statement.{statement}
 use Rattle.double.proofs.is_finite.Tie as tie
 

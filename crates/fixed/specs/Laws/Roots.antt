@@ -11,7 +11,7 @@ use Rattle.arith.specs.Order.{abs-mul}
 use Rattle.arith.specs.Ring.{ring, Z·ring, by-ring}
 use Rattle.arith.specs.Within.{Within, w-num, w-add, w-mul}
 use Rattle.rules.specs.Scaled.{unit, root, sqrt}
-use Rattle.rules.specs.Proofs.Root.{root-is}
+use Rattle.rules.specs.Laws.Root.{root-is}
 use Rattle.fixed.specs.Worked.{S60}
 use Rattle.fixed.specs.Nearness.{Near60}
 use Rattle.fixed.specs.Laws.Bounds.{w-same, w-rest}

@@ -12,7 +12,7 @@ use Rattle.arith.specs.Diff.{_⊖_, Z·ℕ}
 use Rattle.arith.specs.Ring.{ring, Z·ring, by-ring, ev-num}
 use Rattle.arith.specs.Within.{Within, w-num, w-add, w-sub, w-mul}
 use Rattle.rules.specs.Scaled.{unit, one, product, quotient, sqrt, root}
-use Rattle.rules.specs.Proofs.Root.{root-is}
+use Rattle.rules.specs.Laws.Root.{root-is}
 use Rattle.fixed.specs.Nearness.{Ratio}
 use Rattle.fixed.specs.Laws.Bounds.{w-div, w-same, w-up, w-pos, w-rest, w-floor, w-from}
 use Rattle.fixed.specs.Laws.Products.{product-rest}

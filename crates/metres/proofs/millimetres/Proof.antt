@@ -4,7 +4,7 @@ use Prim.Native.Nat.{_*_, _<_}
 use native.Mathlib.Nat.{le-trans, le-of-eq, div-add-mod', mod-lt, mul-pos}
 use native.Mathlib.Omega.{arith}
 use lib.Dec.{lit<}
-use Rattle.metres.proofs.Shortened.{missing-parts, rest-small, missing-le, answer-is}
+use Rattle.metres.specs.Laws.Shortened.{missing-parts, rest-small, missing-le, answer-is}
 use Rattle.metres.proofs.millimetres.Statement.{statement}
 use Rattle.metres.proofs.millimetres.Tie as tie
 

@@ -17,10 +17,10 @@ use mir.Val.{SFits, toZ}
 use mir.ValLaws.{toZ-pos, toZ-ofZ}
 use Rattle.rules.specs.Polynomial.{double-unit}
 use Rattle.double.specs.Value.{signed, value, Number, digits, power}
-use Rattle.double.proofs.Pattern.{sign-bit, field, pattern-value}
+use Rattle.double.specs.Laws.Pattern.{sign-bit, field, pattern-value}
 use Rattle.metres.specs.Millimetres.{truncated, nearest-millimetres, Fits, in-millimetres}
-use Rattle.metres.proofs.Bits.{no-nan}
-use Rattle.metres.proofs.Answer.{answer-small, in-signed}
+use Rattle.metres.specs.Laws.Bits.{no-nan}
+use Rattle.metres.specs.Laws.Answer.{answer-small, in-signed}
 use Rattle.metres.proofs.millimetres_of.Statement.{statement}
 use Rattle.metres.proofs.millimetres_of.Tie as tie
 

@@ -3,7 +3,7 @@ use borrow.Author.Needs.{needs}
 use mathlib.Core.Path.{sym}
 use Prim.Native.Nat.{_+_, _-_, _*_}
 use native.Mathlib.Omega.{arith}
-use Rattle.metres.proofs.Nearest.{one-less, not-less, some-above, quotient-le, missing}
+use Rattle.metres.specs.Laws.Nearest.{one-less, not-less, some-above, quotient-le, missing}
 use Rattle.metres.proofs.rounded.Statement.{statement}
 use Rattle.metres.proofs.rounded.Tie as tie
 

@@ -2,7 +2,7 @@
 use borrow.Author.Needs.{needs}
 use mathlib.Core.Path.{_∙_}
 use native.Mathlib.Omega.{arith}
-use Rattle.metres.proofs.Bits.{no-nan, none, some, fits, power-small}
+use Rattle.metres.specs.Laws.Bits.{no-nan, none, some, fits, power-small}
 use Rattle.metres.proofs.scaled.Statement.{statement}
 use Rattle.metres.proofs.scaled.Tie as tie
 

@@ -9,8 +9,8 @@ use lib.IntN.{natAbs}
 use lib.Ieee.{Float, binary64, toBits}
 use Rattle.rules.specs.Polynomial.{double-unit}
 use Rattle.double.specs.Value.{value, Number, digits, power}
-use Rattle.double.proofs.Pattern.{field, pattern-abs}
-use Rattle.metres.proofs.Bits.{no-nan}
+use Rattle.double.specs.Laws.Pattern.{field, pattern-abs}
+use Rattle.metres.specs.Laws.Bits.{no-nan}
 use Rattle.polynomial_run.proofs.placed_number.Statement.{statement}
 use Rattle.polynomial_run.proofs.placed_number.Tie as tie
 

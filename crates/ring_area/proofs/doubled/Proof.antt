@@ -1,4 +1,4 @@
--- The loop keeps what Summing of Proofs.Area says. Assumes nothing.
+-- The loop keeps what Summing of Laws.Area says. Assumes nothing.
 use mathlib.Core.Path.{_≡_, _∙_, ap}
 use mathlib.Core.List.{List}
 use Prim.Native.Nat.{ℕ, _+_, _*_, _-_, _^_, _<_, _≤_}
@@ -11,9 +11,9 @@ use mir.Val.{SFits, toZ, ofZ}
 use Rattle.arith.specs.Within.{by-abs, w-fits}
 use Rattle.rules.specs.Rings.{Corner, _to_, origin, area-term}
 use Rattle.ring_corners.specs.Corners.{corner, pairs, Near}
-use Rattle.ring_corners.specs.Proofs.Flat.{first-in, half}
-use Rattle.ring_corners.specs.Proofs.Signed.{held}
-use Rattle.ring_area.specs.Proofs.Area.{seen, Summing, summing-start, sum-size, summing-step, summing-end}
+use Rattle.ring_corners.specs.Laws.Flat.{first-in, half}
+use Rattle.ring_corners.specs.Laws.Signed.{held}
+use Rattle.ring_area.specs.Laws.Area.{seen, Summing, summing-start, sum-size, summing-step, summing-end}
 use borrow.Author.Needs.{needs}
 use Rattle.ring_area.proofs.doubled.Statement.{statement}
 use Rattle.ring_area.proofs.doubled.Tie as tie

@@ -5,8 +5,8 @@ use mir.Syntax.{w64}
 use mir.Val.{toZ, ofZ}
 use Rattle.rules.specs.Rings.{origin}
 use Rattle.ring_corners.specs.Corners.{pairs, Near}
-use Rattle.ring_corners.specs.Proofs.Flat.{first-in}
-use Rattle.ring_corners.specs.Proofs.Signed.{held, need-diff, v-diff}
+use Rattle.ring_corners.specs.Laws.Flat.{first-in}
+use Rattle.ring_corners.specs.Laws.Signed.{held, need-diff, v-diff}
 use Rattle.ring_area.proofs.x_from_first.Statement.{statement}
 use Rattle.ring_area.proofs.x_from_first.Tie as tie
 

@@ -1,4 +1,4 @@
--- The loop keeps what Reaching of Proofs.Axis says, of either axis. Assumes nothing.
+-- The loop keeps what Reaching of Laws.Axis says, of either axis. Assumes nothing.
 use mathlib.Core.Path.{_≡_, _∙_, ap₂}
 use mathlib.Core.List.{List}
 use Prim.Native.Nat.{_+_, _-_, _/_, _<_, _≤_}
@@ -11,9 +11,9 @@ use Rattle.rules.specs.Rings.{Corner, origin}
 use Rattle.rules.specs.RingAnswers.{smaller, larger}
 use Rattle.ring_corners.specs.Corners.{pairs}
 use Rattle.ring_checks.specs.Reach.{either-refusal}
-use Rattle.ring_corners.specs.Proofs.Flat.{count-half}
-use Rattle.ring_corners.specs.Proofs.Signed.{held}
-use Rattle.ring_checks.specs.Proofs.Axis.{Reaching, reaching-start, reaching-step, reaching-end, either-axes}
+use Rattle.ring_corners.specs.Laws.Flat.{count-half}
+use Rattle.ring_corners.specs.Laws.Signed.{held}
+use Rattle.ring_checks.specs.Laws.Axis.{Reaching, reaching-start, reaching-step, reaching-end, either-axes}
 use borrow.Author.Needs.{needs}
 use Rattle.ring_checks.proofs.numbers.Statement.{statement}
 use Rattle.ring_checks.proofs.numbers.Tie as tie

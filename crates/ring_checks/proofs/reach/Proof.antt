@@ -2,8 +2,8 @@
 use mathlib.Core.Path.{sym}
 use mir.Syntax.{w64}
 use Rattle.arith.specs.Machine.{v-fit, v-arg, v-num, v-sub, need-sub, lt-yes, lt-no}
-use Rattle.ring_corners.specs.Proofs.Signed.{v-minus}
-use Rattle.ring_checks.specs.Proofs.Axis.{reach-low, reach-high, reach-inside, reach-wide, reach-fine}
+use Rattle.ring_corners.specs.Laws.Signed.{v-minus}
+use Rattle.ring_checks.specs.Laws.Axis.{reach-low, reach-high, reach-inside, reach-wide, reach-fine}
 use Rattle.ring_checks.proofs.reach.Statement.{statement}
 use Rattle.ring_checks.proofs.reach.Tie as tie
 

@@ -1,7 +1,7 @@
 -- 6, 7 and 8 in their order. Assumes nothing.
 use mathlib.Core.Path.{sym, _∙_}
 use mathlib.Core.Logic.{inl, inr}
-use Rattle.ring_checks.specs.Proofs.Accept.{odd-refused, count-refused, numbers-refuse, some}
+use Rattle.ring_checks.specs.Laws.Accept.{odd-refused, count-refused, numbers-refuse, some}
 use Rattle.ring_checks.proofs.refusal.Statement.{statement}
 use Rattle.ring_checks.proofs.refusal.Tie as tie
 

@@ -5,8 +5,8 @@ use Rattle.rules.specs.Refusals.{Answer, answered}
 use Rattle.rules.specs.Rings.{Corner, area2}
 use Rattle.rules.specs.RingAnswers.{area-answer}
 use lib.IntN.{ℤ}
-use Rattle.rings.specs.Proofs.Calls.{refuses, answers, accepts}
-use Rattle.ring_corners.specs.Proofs.Signed.{held}
+use Rattle.rings.specs.Laws.Calls.{refuses, answers, accepts}
+use Rattle.ring_corners.specs.Laws.Signed.{held}
 use borrow.Author.Needs.{needs}
 use Rattle.rings.proofs.area2.Statement.{statement}
 use Rattle.rings.proofs.area2.Tie as tie

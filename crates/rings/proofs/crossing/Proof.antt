@@ -1,7 +1,7 @@
 -- Refused as the checks refuse; otherwise the first crossed pair, or none. Assumes nothing.
 use mathlib.Core.Path.{_∙_}
 use Rattle.rules.specs.RingAnswers.{not-crossed, crossing-answer}
-use Rattle.rings.specs.Proofs.Calls.{refuses, answers, accepts}
+use Rattle.rings.specs.Laws.Calls.{refuses, answers, accepts}
 use borrow.Author.Needs.{needs}
 use Rattle.rings.proofs.crossing.Statement.{statement}
 use Rattle.rings.proofs.crossing.Tie as tie

@@ -6,8 +6,8 @@ use Rattle.rules.specs.Rings.{Corner}
 use Rattle.rules.specs.RingAnswers.{Nozzle, nozzle}
 use Rattle.rings.specs.Answers.{position-answer}
 use Rattle.ring_corners.specs.Corners.{corner, pairs}
-use Rattle.rings.specs.Proofs.Calls.{refuses, answers, accepts}
-use Rattle.ring_corners.specs.Proofs.Signed.{raw-is}
+use Rattle.rings.specs.Laws.Calls.{refuses, answers, accepts}
+use Rattle.ring_corners.specs.Laws.Signed.{raw-is}
 use borrow.Author.Needs.{needs}
 use Rattle.rings.proofs.position.Statement.{statement}
 use Rattle.rings.proofs.position.Tie as tie

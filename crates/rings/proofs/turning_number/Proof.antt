@@ -6,8 +6,8 @@ use Rattle.rules.specs.Refusals.{Answer, answered}
 use Rattle.rules.specs.Rings.{Corner, turning-number}
 use Rattle.rules.specs.RingAnswers.{turning-answer}
 use Rattle.ring_corners.specs.Corners.{corner, pairs}
-use Rattle.rings.specs.Proofs.Calls.{refuses, answers, accepts}
-use Rattle.ring_corners.specs.Proofs.Signed.{held, raw-is}
+use Rattle.rings.specs.Laws.Calls.{refuses, answers, accepts}
+use Rattle.ring_corners.specs.Laws.Signed.{held, raw-is}
 use borrow.Author.Needs.{needs}
 use Rattle.rings.proofs.turning_number.Statement.{statement}
 use Rattle.rings.proofs.turning_number.Tie as tie

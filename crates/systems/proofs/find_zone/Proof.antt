@@ -4,7 +4,7 @@ use Prim.Native.Nat.{ℕ, suc, _≤_}
 use native.Mathlib.Omega.{arith}
 use Rattle.rules.specs.Refusals.{answered}
 use Rattle.rules.specs.Systems.{System, system, find, table}
-use Rattle.rules.specs.Proofs.Codes.{unknown}
+use Rattle.rules.specs.Laws.Codes.{unknown}
 use Rattle.systems.specs.Zones.{Found}
 use Rattle.systems.specs.Rows.{row}
 use Rattle.systems.specs.declared.Zone.{Zone}

@@ -14,14 +14,14 @@ use Rattle.double.specs.Value.{value, finite}
 use Rattle.double.specs.Complex.{horner}
 use Rattle.double.specs.Exact.{doubles}
 use Rattle.double.specs.declared.Pair.{Pair}
-use Rattle.double.proofs.Never.{passes}
+use Rattle.double.specs.Laws.Never.{passes}
 use Rattle.metres.specs.Metres.{arguments-of}
 use Rattle.fixed.specs.Nearness.{turned}
 use Rattle.fixed_forward.specs.Ellipsoids.{which}
 use Rattle.systems.specs.declared.Zone.{Zone}
 use Rattle.projection_worked.specs.Worked.{z-of, plane-pair, scaled-part}
-use Rattle.projection_worked.specs.Near.Finite.{latitude-taken, plane-tame}
-use Rattle.projection_worked.specs.Near.Size.{Tame}
+use Rattle.projection_worked.specs.Laws.Finite.{latitude-taken, plane-tame}
+use Rattle.projection_worked.specs.Laws.Size.{Tame}
 use Rattle.projection.specs.Located.{LocatedAt}
 use Rattle.projection.specs.Stood.{X-stands, Y-stands}
 use Rattle.projection.specs.declared.PlaneAnswer.the-variants.{At}

@@ -14,7 +14,7 @@ use Rattle.double.specs.Value.{value, finite}
 use Rattle.double.specs.Complex.{horner, Numbers}
 use Rattle.double.specs.Exact.{doubles}
 use Rattle.double.specs.declared.Pair.{Pair}
-use Rattle.double.proofs.Never.{passes}
+use Rattle.double.specs.Laws.Never.{passes}
 use Rattle.metres.specs.Metres.{arguments-of}
 use Rattle.fixed.specs.Nearness.{turned}
 use Rattle.fixed.specs.Laws.Turned.{below-zero}
@@ -23,10 +23,10 @@ use Rattle.fixed_bands.specs.Bands.{Latitude}
 use Rattle.systems.specs.Zones.{Stands}
 use Rattle.systems.specs.declared.Zone.{Zone}
 use Rattle.projection_worked.specs.Worked.{z-of, plane-pair, slope-pair, scaled-part, scale-from, convergence-from, worked-X, worked-Y, worked-scale, worked-convergence}
-use Rattle.projection_worked.specs.Near.Finite.{latitude-taken, plane-tame, slope-tame}
-use Rattle.projection_worked.specs.Near.Derivative.{point-sloped}
-use Rattle.projection_worked.specs.Near.Size.{Tame}
-use Rattle.projection_worked.specs.Near.Slope.{Sloped}
+use Rattle.projection_worked.specs.Laws.Finite.{latitude-taken, plane-tame, slope-tame}
+use Rattle.projection_worked.specs.Laws.Derivative.{point-sloped}
+use Rattle.projection_worked.specs.Laws.Size.{Tame}
+use Rattle.projection_worked.specs.Laws.Slope.{Sloped}
 use Rattle.projection.specs.Located.{LocatedAt}
 use Rattle.projection.specs.Stood.{X-stands, Y-stands, scale-stands, convergence-stands}
 use Rattle.projection.specs.declared.ForwardAnswer.the-variants.{Point}

@@ -16,7 +16,7 @@ use Rattle.metres.specs.Millimetres.{in-millimetres}
 use Rattle.systems.specs.Zones.{Sized}
 use Rattle.systems.specs.declared.Zone.{Zone}
 use Rattle.projection_worked.specs.Worked.{scaled-part}
-use Rattle.projection_worked.specs.Near.Millimetres.{scale-of, millimetres-size}
+use Rattle.projection_worked.specs.Laws.Millimetres.{scale-of, millimetres-size}
 use Rattle.projection.proofs.steps.after_scale.Statement.{statement}
 use Rattle.projection.proofs.steps.after_scale.Tie as tie
 use Rattle.projection.proofs.steps.after_scale.Reads as reads

@@ -5,7 +5,7 @@ use mir.Facts.{toZ-ofZ}
 use Rattle.rules.specs.Refusals.{Answer, answered}
 use Rattle.rules.specs.Systems.{System}
 use Rattle.rules.specs.Points.{Ticks, latitude-bad, longitude-bad}
-use Rattle.rules.specs.Proofs.Checks.{judged-2, judged-3, judged-passes}
+use Rattle.rules.specs.Laws.Checks.{judged-2, judged-3, judged-passes}
 use Rattle.systems.specs.Zones.{Stands}
 use borrow.Author.Needs.{needs}
 use Rattle.projection_inverse.proofs.backward.judge.Statement.{statement}

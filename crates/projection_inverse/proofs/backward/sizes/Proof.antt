@@ -8,12 +8,12 @@ use Rattle.rules.specs.Systems.{Ellipsoid}
 use Rattle.rules.specs.Polynomial.{double-unit}
 use Rattle.double.specs.Value.{value}
 use Rattle.double.specs.declared.Pair.{Pair}
-use Rattle.double.proofs.Operations.{double-unit-pos}
+use Rattle.double.specs.Laws.Operations.{double-unit-pos}
 use Rattle.metres.specs.Millimetres.{truncated}
 use Rattle.systems.specs.Zones.{ellipsoid-of}
 use Rattle.fixed_inverse.specs.Worked.{ellipsoid, latitude-ticks, difference-ticks}
 use Rattle.fixed_inverse.specs.Laws.Radius.{x-low, x-high, y-high}
-use Rattle.projection_worked.specs.Near.InverseSizes.{latitude-small, difference-small}
+use Rattle.projection_worked.specs.Laws.InverseSizes.{latitude-small, difference-small}
 use Rattle.projection_worked.specs.Undoing.{same-ellipsoid}
 use Rattle.projection_inverse.proofs.backward.sizes.Statement.{statement}
 use Rattle.projection_inverse.proofs.backward.sizes.Tie as tie

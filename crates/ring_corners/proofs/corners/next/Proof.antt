@@ -1,6 +1,6 @@
 -- The last corner is followed by the first. Assumes nothing.
 use mathlib.Core.Path.{sym}
-use Rattle.ring_corners.specs.Proofs.Flat.{next-is, next-none}
+use Rattle.ring_corners.specs.Laws.Flat.{next-is, next-none}
 use borrow.Author.Needs.{needs}
 use Rattle.ring_corners.proofs.corners.next.Statement.{statement}
 use Rattle.ring_corners.proofs.corners.next.Tie as tie

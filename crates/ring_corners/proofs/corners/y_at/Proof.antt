@@ -2,7 +2,7 @@
 use Prim.Native.Nat.{_+_, _*_, _<_}
 use native.Mathlib.Omega.{arith}
 use lib.ListN.{length}
-use Rattle.ring_corners.specs.Proofs.Flat.{y-read, count-of}
+use Rattle.ring_corners.specs.Laws.Flat.{y-read, count-of}
 use borrow.Author.Needs.{needs}
 use Rattle.ring_corners.proofs.corners.y_at.Statement.{statement}
 use Rattle.ring_corners.proofs.corners.y_at.Tie as tie

@@ -2,7 +2,7 @@
 use mathlib.Core.Path.{_∙_, ap}
 use mir.Facts.{toZ-ofZ}
 use Rattle.ring_corners.specs.Sides.{sign-of}
-use Rattle.ring_corners.specs.Proofs.Signed.{held}
+use Rattle.ring_corners.specs.Laws.Signed.{held}
 use borrow.Author.Needs.{needs}
 use Rattle.ring_corners.proofs.sides.near_sign.Statement.{statement}
 use Rattle.ring_corners.proofs.sides.near_sign.Tie as tie

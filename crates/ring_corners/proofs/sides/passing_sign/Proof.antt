@@ -5,8 +5,8 @@ use Rattle.arith.specs.Order.{<ℤ→≤ℤ, ≤ℤ-or-<ℤ}
 use Rattle.rules.specs.Rings.{Corner, D}
 use Rattle.ring_corners.specs.Corners.{corner, Near}
 use Rattle.ring_corners.specs.Sides.{sign-of}
-use Rattle.ring_corners.specs.Proofs.Signed.{less, not-less, raw, raw-is}
-use Rattle.ring_corners.specs.Proofs.Sides.{Amid, sign-positive, sign-negative, above-both, below-both, near-between}
+use Rattle.ring_corners.specs.Laws.Signed.{less, not-less, raw, raw-is}
+use Rattle.ring_corners.specs.Laws.Sides.{Amid, sign-positive, sign-negative, above-both, below-both, near-between}
 use Rattle.ring_corners.proofs.sides.passing_sign.Statement.{statement}
 use Rattle.ring_corners.proofs.sides.passing_sign.Tie as tie
 

@@ -6,8 +6,8 @@ use mir.Facts.{toZ-ofZ}
 use mir.Syntax.{w64}
 use mir.Val.{toZ, ofZ}
 use Rattle.rules.specs.RingAnswers.{smaller, larger}
-use Rattle.ring_corners.specs.Proofs.Signed.{held}
-use Rattle.ring_pairs.specs.Proofs.Crossings.{apart-is, low-high}
+use Rattle.ring_corners.specs.Laws.Signed.{held}
+use Rattle.ring_pairs.specs.Laws.Crossings.{apart-is, low-high}
 use borrow.Author.Needs.{needs}
 use Rattle.ring_pairs.proofs.meeting.apart.Statement.{statement}
 use Rattle.ring_pairs.proofs.meeting.apart.Tie as tie

@@ -1,7 +1,7 @@
 -- Above, below, or neither. Assumes nothing.
 use mathlib.Core.Path.{sym}
-use Rattle.ring_corners.specs.Proofs.Signed.{less, not-less}
-use Rattle.ring_pairs.specs.Proofs.Crossings.{beyond-above, not-above, beyond-below, not-below, not-beyond}
+use Rattle.ring_corners.specs.Laws.Signed.{less, not-less}
+use Rattle.ring_pairs.specs.Laws.Crossings.{beyond-above, not-above, beyond-below, not-below, not-beyond}
 use Rattle.ring_pairs.proofs.meeting.beyond.Statement.{statement}
 use Rattle.ring_pairs.proofs.meeting.beyond.Tie as tie
 

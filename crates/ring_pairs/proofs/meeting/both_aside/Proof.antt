@@ -3,7 +3,7 @@ use mathlib.Core.Path.{_≡_, _∙_, ap₂}
 use Rattle.rules.specs.Rings.{Corner, D}
 use Rattle.rules.specs.Crossing.{aside}
 use Rattle.ring_corners.specs.Corners.{corner, Near}
-use Rattle.ring_corners.specs.Proofs.Signed.{held, raw, raw-is}
+use Rattle.ring_corners.specs.Laws.Signed.{held, raw, raw-is}
 use borrow.Author.Needs.{needs}
 use Rattle.ring_pairs.proofs.meeting.both_aside.Statement.{statement}
 use Rattle.ring_pairs.proofs.meeting.both_aside.Tie as tie

@@ -6,8 +6,8 @@ use Rattle.rules.specs.Rings.{Corner, D}
 use Rattle.ring_corners.specs.Corners.{corner, Near}
 use Rattle.ring_pairs.specs.Crossings.{ahead, RowNear}
 use Rattle.ring_corners.specs.Sides.{sign-of}
-use Rattle.ring_corners.specs.Proofs.Signed.{raw, raw-is}
-use Rattle.ring_pairs.specs.Proofs.Crossings.{straight, not-straight}
+use Rattle.ring_corners.specs.Laws.Signed.{raw, raw-is}
+use Rattle.ring_pairs.specs.Laws.Crossings.{straight, not-straight}
 use Rattle.ring_corners.specs.declared.sides.Sign.the-variants.{Positive, Zero, Negative}
 use borrow.Author.Needs.{needs}
 use Rattle.ring_pairs.proofs.meeting.doubles_back.Statement.{statement}

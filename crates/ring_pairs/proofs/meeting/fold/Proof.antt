@@ -6,8 +6,8 @@ use lib.Signed.{ltZ}
 use Rattle.rules.specs.Rings.{Corner, D, isZero}
 use Rattle.ring_corners.specs.Corners.{corner}
 use Rattle.ring_pairs.specs.Crossings.{ahead, no-length, RowNear}
-use Rattle.ring_corners.specs.Proofs.Signed.{raw, raw-is}
-use Rattle.ring_pairs.specs.Proofs.Crossings.{folds-none, folds-back}
+use Rattle.ring_corners.specs.Laws.Signed.{raw, raw-is}
+use Rattle.ring_pairs.specs.Laws.Crossings.{folds-none, folds-back}
 use borrow.Author.Needs.{needs}
 use Rattle.ring_pairs.proofs.meeting.fold.Statement.{statement}
 use Rattle.ring_pairs.proofs.meeting.fold.Tie as tie

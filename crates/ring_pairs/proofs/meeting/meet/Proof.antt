@@ -6,8 +6,8 @@ use Rattle.rules.specs.Rings.{Corner}
 use Rattle.rules.specs.Crossing.{overlap}
 use Rattle.ring_corners.specs.Corners.{corner}
 use Rattle.ring_pairs.specs.Crossings.{AllNear, straddle}
-use Rattle.ring_corners.specs.Proofs.Signed.{raw, raw-is}
-use Rattle.ring_pairs.specs.Proofs.Crossings.{apart-in-x, apart-in-y, by-sides}
+use Rattle.ring_corners.specs.Laws.Signed.{raw, raw-is}
+use Rattle.ring_pairs.specs.Laws.Crossings.{apart-in-x, apart-in-y, by-sides}
 use borrow.Author.Needs.{needs}
 use Rattle.ring_pairs.proofs.meeting.meet.Statement.{statement}
 use Rattle.ring_pairs.proofs.meeting.meet.Tie as tie

@@ -3,7 +3,7 @@ use mir.Facts.{toZ-ofZ}
 use mir.Syntax.{w64}
 use Rattle.arith.specs.Machine.{v-mul, v-add, need-mul, need-add}
 use Rattle.ring_pairs.specs.Crossings.{ahead}
-use Rattle.ring_corners.specs.Proofs.Signed.{need-diff, v-diff}
+use Rattle.ring_corners.specs.Laws.Signed.{need-diff, v-diff}
 use Rattle.ring_pairs.proofs.meeting.onward.Statement.{statement}
 use Rattle.ring_pairs.proofs.meeting.onward.Tie as tie
 

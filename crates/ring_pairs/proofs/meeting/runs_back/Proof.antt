@@ -6,7 +6,7 @@ use mir.Syntax.{w64}
 use mir.Val.{toZ, ofZ}
 use Rattle.ring_corners.specs.Corners.{corner}
 use Rattle.ring_pairs.specs.Crossings.{ahead, RowNear}
-use Rattle.ring_corners.specs.Proofs.Signed.{held, raw, raw-is}
+use Rattle.ring_corners.specs.Laws.Signed.{held, raw, raw-is}
 use Rattle.ring_pairs.proofs.meeting.runs_back.Statement.{statement}
 use Rattle.ring_pairs.proofs.meeting.runs_back.Tie as tie
 

@@ -1,8 +1,8 @@
 -- An edge of no length, by its numbers. Assumes nothing.
 use mathlib.Core.Path.{sym}
 use Rattle.ring_corners.specs.Corners.{corner}
-use Rattle.ring_corners.specs.Proofs.Signed.{less, not-less}
-use Rattle.ring_pairs.specs.Proofs.Crossings.{north, south, east, west, none}
+use Rattle.ring_corners.specs.Laws.Signed.{less, not-less}
+use Rattle.ring_pairs.specs.Laws.Crossings.{north, south, east, west, none}
 use Rattle.ring_pairs.proofs.meeting.same.Statement.{statement}
 use Rattle.ring_pairs.proofs.meeting.same.Tie as tie
 

@@ -4,8 +4,8 @@ use Rattle.rules.specs.Rings.{Corner, D}
 use Rattle.rules.specs.Crossing.{aside}
 use Rattle.ring_corners.specs.Corners.{corner}
 use Rattle.ring_pairs.specs.Crossings.{AllNear}
-use Rattle.ring_corners.specs.Proofs.Signed.{raw, raw-is}
-use Rattle.ring_pairs.specs.Proofs.Crossings.{aside-first, aside-second, aside-neither}
+use Rattle.ring_corners.specs.Laws.Signed.{raw, raw-is}
+use Rattle.ring_pairs.specs.Laws.Crossings.{aside-first, aside-second, aside-neither}
 use Rattle.ring_pairs.proofs.meeting.straddles.Statement.{statement}
 use Rattle.ring_pairs.proofs.meeting.straddles.Tie as tie
 

@@ -7,7 +7,7 @@ use lib.ListN.{getD}
 use Rattle.rules.specs.Rings.{_to_, origin}
 use Rattle.rules.specs.Crossing.{folds}
 use Rattle.ring_corners.specs.Corners.{pairs}
-use Rattle.ring_pairs.specs.Proofs.Search.{leg, hit-next, hit-far, hit-first, miss-first, hit-last, miss-last}
+use Rattle.ring_pairs.specs.Laws.Search.{leg, hit-next, hit-far, hit-first, miss-first, hit-last, miss-last}
 use Rattle.ring_pairs.proofs.search.after.Statement.{statement}
 use Rattle.ring_pairs.proofs.search.after.Tie as tie
 

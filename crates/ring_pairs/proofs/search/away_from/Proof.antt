@@ -8,9 +8,9 @@ use mir.Facts.{toZ-ofZ}
 use Rattle.rules.specs.Rings.{origin}
 use Rattle.ring_corners.specs.Corners.{pairs}
 use Rattle.ring_pairs.specs.Crossings.{outside}
-use Rattle.ring_corners.specs.Proofs.Flat.{count-of}
-use Rattle.ring_corners.specs.Proofs.Signed.{held}
-use Rattle.ring_pairs.specs.Proofs.Crossings.{away-x, away-y}
+use Rattle.ring_corners.specs.Laws.Flat.{count-of}
+use Rattle.ring_corners.specs.Laws.Signed.{held}
+use Rattle.ring_pairs.specs.Laws.Crossings.{away-x, away-y}
 use Rattle.ring_pairs.proofs.search.away_from.Statement.{statement}
 use Rattle.ring_pairs.proofs.search.away_from.Tie as tie
 

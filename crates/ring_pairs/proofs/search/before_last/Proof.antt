@@ -2,7 +2,7 @@
 use mathlib.Core.Path.{sym, _∙_}
 use native.Mathlib.Omega.{arith}
 use Rattle.ring_corners.specs.Corners.{pairs}
-use Rattle.ring_pairs.specs.Proofs.Search.{hit-neighbour, miss-neighbour}
+use Rattle.ring_pairs.specs.Laws.Search.{hit-neighbour, miss-neighbour}
 use Rattle.ring_pairs.proofs.search.before_last.Statement.{statement}
 use Rattle.ring_pairs.proofs.search.before_last.Tie as tie
 

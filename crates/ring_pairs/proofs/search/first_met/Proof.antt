@@ -5,7 +5,7 @@ use mir.Syntax.{w64}
 use mir.Val.{toZ, ofZ}
 use Rattle.ring_corners.specs.Corners.{pairs}
 use Rattle.ring_pairs.specs.Crossings.{BoxOf}
-use Rattle.ring_corners.specs.Proofs.Signed.{held}
+use Rattle.ring_corners.specs.Laws.Signed.{held}
 use borrow.Author.Needs.{needs}
 use Rattle.ring_pairs.proofs.search.first_met.Statement.{statement}
 use Rattle.ring_pairs.proofs.search.first_met.Tie as tie

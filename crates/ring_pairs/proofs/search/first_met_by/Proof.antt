@@ -7,7 +7,7 @@ use mir.Syntax.{w64}
 use mir.Val.{toZ, ofZ}
 use Rattle.ring_corners.specs.Corners.{pairs}
 use Rattle.ring_pairs.specs.Crossings.{BoxOf}
-use Rattle.ring_pairs.specs.Proofs.Search.{Met-none, met-hit, met-end, box-order, skip-first, skip-more}
+use Rattle.ring_pairs.specs.Laws.Search.{Met-none, met-hit, met-end, box-order, skip-first, skip-more}
 use Rattle.ring_pairs.proofs.search.first_met_by.Statement.{statement}
 use Rattle.ring_pairs.proofs.search.first_met_by.Tie as tie
 

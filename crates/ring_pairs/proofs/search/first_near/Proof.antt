@@ -7,7 +7,7 @@ use mir.Syntax.{w64}
 use mir.Val.{toZ, ofZ}
 use Rattle.ring_corners.specs.Corners.{pairs}
 use Rattle.ring_pairs.specs.Crossings.{Skipped}
-use Rattle.ring_pairs.specs.Proofs.Search.{skip-start, skip-step}
+use Rattle.ring_pairs.specs.Laws.Search.{skip-start, skip-step}
 use Rattle.ring_pairs.proofs.search.first_near.Statement.{statement}
 use Rattle.ring_pairs.proofs.search.first_near.Tie as tie
 

@@ -4,8 +4,8 @@ use mathlib.Core.List.{List}
 use lib.ListN.{getD}
 use Rattle.rules.specs.Rings.{Corner, origin}
 use Rattle.ring_corners.specs.Corners.{pairs}
-use Rattle.ring_pairs.specs.Proofs.Nearness.{row-near}
-use Rattle.ring_corners.specs.Proofs.Signed.{held, made, raw}
+use Rattle.ring_pairs.specs.Laws.Nearness.{row-near}
+use Rattle.ring_corners.specs.Laws.Signed.{held, made, raw}
 use Rattle.ring_pairs.proofs.search.fold_at.Statement.{statement}
 use Rattle.ring_pairs.proofs.search.fold_at.Tie as tie
 

@@ -5,8 +5,8 @@ use mir.Facts.{toZ-ofZ}
 use Rattle.rules.specs.Rings.{Corner, _to_, between}
 use Rattle.ring_corners.specs.Corners.{corner, Near}
 use Rattle.ring_turning.specs.Touching.{touch-of}
-use Rattle.ring_corners.specs.Proofs.Signed.{raw, raw-is}
-use Rattle.ring_turning.specs.Proofs.Touching.{touch-off-x}
+use Rattle.ring_corners.specs.Laws.Signed.{raw, raw-is}
+use Rattle.ring_turning.specs.Laws.Touching.{touch-off-x}
 use borrow.Author.Needs.{needs}
 use Rattle.ring_turning.proofs.touching.beside.Statement.{statement}
 use Rattle.ring_turning.proofs.touching.beside.Tie as tie

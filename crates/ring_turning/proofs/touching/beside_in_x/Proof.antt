@@ -6,8 +6,8 @@ use Rattle.rules.specs.Rings.{Corner, D, between}
 use Rattle.ring_corners.specs.Corners.{corner, Near}
 use Rattle.ring_corners.specs.Sides.{sign-of}
 use Rattle.ring_turning.specs.Touching.{touch-flat}
-use Rattle.ring_corners.specs.Proofs.Signed.{raw, raw-is}
-use Rattle.ring_turning.specs.Proofs.Touching.{touch-flats, touch-off-y, near-inside}
+use Rattle.ring_corners.specs.Laws.Signed.{raw, raw-is}
+use Rattle.ring_turning.specs.Laws.Touching.{touch-flats, touch-off-y, near-inside}
 use borrow.Author.Needs.{needs}
 use Rattle.ring_turning.proofs.touching.beside_in_x.Statement.{statement}
 use Rattle.ring_turning.proofs.touching.beside_in_x.Tie as tie

@@ -7,9 +7,9 @@ use Rattle.rules.specs.Rings.{Corner, _to_, D, turn}
 use Rattle.ring_corners.specs.Corners.{corner, Near}
 use Rattle.ring_corners.specs.Sides.{sign-of}
 use Rattle.ring_turning.specs.Touching.{touch-of, touch-rise, touch-fall}
-use Rattle.ring_corners.specs.Proofs.Signed.{less, not-less, at-most, not-at-most, raw, raw-is}
-use Rattle.ring_corners.specs.Proofs.Sides.{turn-south}
-use Rattle.ring_turning.specs.Proofs.Touching.{touch-rises, touch-falls, touch-north}
+use Rattle.ring_corners.specs.Laws.Signed.{less, not-less, at-most, not-at-most, raw, raw-is}
+use Rattle.ring_corners.specs.Laws.Sides.{turn-south}
+use Rattle.ring_turning.specs.Laws.Touching.{touch-rises, touch-falls, touch-north}
 use borrow.Author.Needs.{needs}
 use Rattle.ring_turning.proofs.touching.edge_touch.Statement.{statement}
 use Rattle.ring_turning.proofs.touching.edge_touch.Tie as tie

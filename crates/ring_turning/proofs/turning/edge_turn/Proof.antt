@@ -5,8 +5,8 @@ use mir.Facts.{toZ-ofZ}
 use Rattle.rules.specs.Rings.{Corner, D}
 use Rattle.ring_corners.specs.Corners.{corner, Near}
 use Rattle.ring_corners.specs.Sides.{sign-of, rise-of, fall-of}
-use Rattle.ring_corners.specs.Proofs.Signed.{held, less, not-less, at-most, not-at-most, raw, raw-is}
-use Rattle.ring_corners.specs.Proofs.Sides.{turn-rises, turn-falls, turn-south, turn-north}
+use Rattle.ring_corners.specs.Laws.Signed.{held, less, not-less, at-most, not-at-most, raw, raw-is}
+use Rattle.ring_corners.specs.Laws.Sides.{turn-rises, turn-falls, turn-south, turn-north}
 use borrow.Author.Needs.{needs}
 use Rattle.ring_turning.proofs.turning.edge_turn.Statement.{statement}
 use Rattle.ring_turning.proofs.turning.edge_turn.Tie as tie

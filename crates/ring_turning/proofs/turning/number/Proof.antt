@@ -1,4 +1,4 @@
--- The loop keeps what Turning of Proofs.Turning says. Assumes nothing.
+-- The loop keeps what Turning of Laws.Turning says. Assumes nothing.
 use mathlib.Core.Path.{_≡_, sym, _∙_, ap}
 use Prim.Native.Nat.{ℕ, _+_, _-_, _/_, _<_, _≤_}
 use native.Mathlib.Omega.{arith}
@@ -9,9 +9,9 @@ use mir.Syntax.{w64}
 use mir.Val.{toZ, ofZ}
 use Rattle.rules.specs.Rings.{Corner, _to_, origin, turn, turning-number}
 use Rattle.ring_corners.specs.Corners.{corner, pairs, next-of}
-use Rattle.ring_corners.specs.Proofs.Flat.{half, next-inside}
-use Rattle.ring_corners.specs.Proofs.Signed.{held, raw, raw-is}
-use Rattle.ring_turning.specs.Proofs.Turning.{Turning, turning-start, turning-step, turning-end, turning-fits, run}
+use Rattle.ring_corners.specs.Laws.Flat.{half, next-inside}
+use Rattle.ring_corners.specs.Laws.Signed.{held, raw, raw-is}
+use Rattle.ring_turning.specs.Laws.Turning.{Turning, turning-start, turning-step, turning-end, turning-fits, run}
 use Rattle.ring_turning.proofs.turning.number.Statement.{statement}
 use Rattle.ring_turning.proofs.turning.number.Tie as tie
 

@@ -4,7 +4,7 @@ use mathlib.Core.List.{List}
 use lib.ListN.{getD}
 use Rattle.rules.specs.Rings.{Corner, origin}
 use Rattle.ring_corners.specs.Corners.{pairs}
-use Rattle.ring_corners.specs.Proofs.Signed.{held, made, raw, raw-is}
+use Rattle.ring_corners.specs.Laws.Signed.{held, made, raw, raw-is}
 use Rattle.ring_turning.proofs.turning.turn_at.Statement.{statement}
 use Rattle.ring_turning.proofs.turning.turn_at.Tie as tie
 

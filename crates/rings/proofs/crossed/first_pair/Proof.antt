@@ -4,8 +4,8 @@ use Prim.Native.Nat.{_+_, _-_, _/_, _≤_}
 use native.Mathlib.Omega.{arith}
 use lib.ListN.{length}
 use Rattle.ring_corners.specs.Corners.{pairs}
-use Rattle.ring_corners.specs.Proofs.Flat.{first-in, half}
-use Rattle.rings.specs.Proofs.Crossed.{Searched, searched-start, searched-hit, searched-miss, searched-end}
+use Rattle.ring_corners.specs.Laws.Flat.{first-in, half}
+use Rattle.rings.specs.Laws.Crossed.{Searched, searched-start, searched-hit, searched-miss, searched-end}
 use Rattle.rings.proofs.crossed.first_pair.Statement.{statement}
 use Rattle.rings.proofs.crossed.first_pair.Tie as tie
 

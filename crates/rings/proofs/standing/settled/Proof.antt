@@ -2,7 +2,7 @@
 use mathlib.Core.Path.{sym, ap}
 use Rattle.arith.specs.Machine.{v-fit, v-num, lt-yes, lt-no}
 use Rattle.rules.specs.Refusals.{answered}
-use Rattle.rings.specs.Proofs.Standing.{open-above, open-below, shut-at-zero}
+use Rattle.rings.specs.Laws.Standing.{open-above, open-below, shut-at-zero}
 use Rattle.rings.proofs.standing.settled.Statement.{statement}
 use Rattle.rings.proofs.standing.settled.Tie as tie
 

@@ -1,4 +1,4 @@
--- The loop keeps what Passing of Proofs.Standing says. Assumes nothing.
+-- The loop keeps what Passing of Laws.Standing says. Assumes nothing.
 use mathlib.Core.Path.{_≡_, sym, _∙_, ap}
 use Prim.Native.Nat.{ℕ, _+_, _-_, _/_, _<_, _≤_}
 use native.Mathlib.Omega.{arith}
@@ -13,10 +13,10 @@ use Rattle.rules.specs.Rings.{Corner, _to_, origin}
 use Rattle.ring_corners.specs.Corners.{corner, pairs, next-of}
 use Rattle.rings.specs.Standing.{settled-as}
 use Rattle.ring_turning.specs.Touching.{touch-of}
-use Rattle.ring_corners.specs.Proofs.Flat.{half, next-inside}
-use Rattle.ring_corners.specs.Proofs.Signed.{raw, raw-is}
-use Rattle.ring_turning.specs.Proofs.Turning.{run}
-use Rattle.rings.specs.Proofs.Standing.{Passing, passing-start, passing-step, passing-end, passing-fits, hit}
+use Rattle.ring_corners.specs.Laws.Flat.{half, next-inside}
+use Rattle.ring_corners.specs.Laws.Signed.{raw, raw-is}
+use Rattle.ring_turning.specs.Laws.Turning.{run}
+use Rattle.rings.specs.Laws.Standing.{Passing, passing-start, passing-step, passing-end, passing-fits, hit}
 use Rattle.ring_turning.specs.declared.touching.Touch.the-variants.{OnEdge, Adds}
 use borrow.Author.Needs.{needs}
 use Rattle.rings.proofs.standing.standing.Statement.{statement}

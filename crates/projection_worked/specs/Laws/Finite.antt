@@ -1,0 +1,42 @@
+-- Every step in f64 of a point that is taken is finite: refusal 10 is never given. Assumes nothing.
+use mathlib.Core.Bool.{Bool, true, false, _&&_}
+use mathlib.Core.Path.{_≡_, refl, ap₂, _∙_}
+use Prim.Native.Nat.{ℕ, _≤_}
+use lib.Dec.{leb→le}
+use lib.IntN.{ℤ, pos, negsuc, natAbs, _-ℤ_}
+use lib.Signed.{_≤ℤ_}
+use Rattle.rules.specs.Units.{_°_′_″}
+use Rattle.rules.specs.Systems.{System, Ellipsoid, constants, a-coefficients}
+use Rattle.rules.specs.Scaled.{unit, derivative}
+use Rattle.rules.specs.Points.{latitude-bad}
+use Rattle.rules.specs.Laws.Checks.{latitude-exact}
+use Rattle.double.specs.Bound.{reach}
+use Rattle.double.specs.Laws.Systems.{forward-light, derivative-light}
+use Rattle.double.specs.Laws.Never.{passes}
+use Rattle.fixed_bands.specs.Bands.{Latitude}
+use Rattle.fixed_forward.specs.Mercator.{north-of, east-of}
+use Rattle.fixed_forward.specs.Sizes.{north-size, east-size}
+use Rattle.projection_worked.specs.Worked.{z-of, plane-pair, slope-pair, both-finite, steps-finite}
+use Rattle.projection_worked.specs.Laws.Plane.{arguments-inside}
+use Rattle.projection_worked.specs.Laws.Size.{Tame, tame}
+
+-- a latitude that is taken is a natural number of ticks from 48° to 56°
+pub latitude-taken : (B : ℤ) → latitude-bad B ≡ false → (B ≡ pos (natAbs B)) × Latitude (natAbs B)
+latitude-taken B e = go B (latitude-exact B .0 e)
+  where
+    go : (B : ℤ) → ((pos (48 ° 0 ′ 0 ″) ≤ℤ B) × (B ≤ℤ pos (56 ° 0 ′ 0 ″))) → (B ≡ pos (natAbs B)) × Latitude (natAbs B)
+    go (pos n) h = (refl, record { low = leb→le (48 ° 0 ′ 0 ″) n (h .0 .le); high = leb→le n (56 ° 0 ′ 0 ″) (h .1 .le) })
+    go (negsuc n) h = absurd (h .0 .le)
+
+module _ (E : Ellipsoid) (n d : ℕ) (l : Latitude n) (g : d ≤ 5 ° 30 ′ 0 ″) where
+  pub plane-tame : Tame (plane-pair E n d)
+  unfolding plane-pair z-of
+  plane-tame = tame (a-coefficients (constants E)) _ reach (forward-light E) (arguments-inside (north-of E n d) (pos (east-of E n d)) (north-size E n l false d g) (east-size E n l false d g))
+
+  pub slope-tame : Tame (slope-pair E n d)
+  unfolding slope-pair z-of
+  slope-tame = tame (derivative (a-coefficients (constants E))) _ reach (derivative-light E) (arguments-inside (north-of E n d) (pos (east-of E n d)) (north-size E n l false d g) (east-size E n l false d g))
+
+pub finite-taken : (s : System) (B d : ℤ) → Latitude (natAbs B) → natAbs d ≤ 5 ° 30 ′ 0 ″ → steps-finite s B d ≡ true
+unfolding steps-finite
+finite-taken s B d l g = ap₂ _&&_ (passes _ (plane-tame (s .ellipsoid) (natAbs B) (natAbs d) l g .numbers)) (passes _ (slope-tame (s .ellipsoid) (natAbs B) (natAbs d) l g .numbers))

@@ -1,0 +1,105 @@
+-- The inverse is right: refused as the rules say, and else ticks within 0.52 of the definition's, judged by refusals 2 and 3. And no point that passes
+-- refusals 1 and 4 comes to refusal 10. Assumes nothing.
+use mathlib.Core.Bool.{Bool, true, false, not}
+use mathlib.Core.Path.{_≡_, refl, sym, _∙_, ap, ap₂, subst}
+use mathlib.Core.List.{[], _∷_}
+use Prim.Native.Nat.{ℕ, _*_, _≤_}
+use native.Mathlib.Omega.{arith}
+use lib.IntN.{ℤ, pos, natAbs, _+ℤ_, _-ℤ_, _*ℤ_}
+use Rattle.arith.specs.Ring.{ring, Z·ring, by-ring}
+use Rattle.rules.specs.Refusals.{Answer, answered, refused, crossed-at, _>>=_, _>>_, _if_, plane-outside, step-not-finite}
+use Rattle.rules.specs.Systems.{System, system, constants, b-coefficients}
+use Rattle.rules.specs.Scaled.{unit, polynomial}
+use Rattle.rules.specs.Scaled as scaled
+use Rattle.rules.specs.Rounding.{Within}
+use Rattle.rules.specs.Laws.OwnAnswers.{wider}
+use Rattle.rules.specs.Projection as Unrounded
+use Rattle.rules.specs.Points.{offset-X, offset-Y, plane-bad, inverse-checks, judged, Near-inverse, Right-inverse, Right-inverse-by}
+use Rattle.double.specs.declared.Pair.{Pair}
+use Rattle.double.specs.Laws.Never.{passes}
+use Rattle.fixed.specs.Laws.Turned.{below-zero}
+use Rattle.fixed_inverse.specs.Laws.Inverse.{definition, latitude-band, difference-band}
+use Rattle.projection_worked.specs.Worked.{both-finite, millionths-of, below-nought}
+use Rattle.projection_worked.specs.Inverse.{mercator-pair, latitude-from, difference-from, worked-pair, worked-ticks, finite-in, inverse-finite, worked-inverse}
+use Rattle.projection_worked.specs.Laws.InverseUndone.{defined-length}
+use Rattle.projection_worked.specs.Laws.InverseRange.{box-placed}
+use Rattle.projection_worked.specs.Laws.InverseBox.{Millionths, system-millionths, north-is, boxed}
+use Rattle.projection_worked.specs.Laws.InverseTicks.{defined-pair, side-of, mercator, turned-both}
+
+-- ---- a point of a system that passes refusal 4
+module _ (s : System) (m : Millionths s (millionths-of s)) (X Y : ℤ) (p : plane-bad s X Y ≡ false) where
+  abbrev n : ℕ
+  n = natAbs (X -ℤ offset-X s)
+
+  abbrev b : ℤ
+  b = Y -ℤ offset-Y s
+
+  abbrev defined : scaled.Pair
+  defined = defined-pair (s .ellipsoid) (millionths-of s) n b
+
+  -- the definition's own words come to the same pair
+  same-definition : Unrounded.inverse s X Y ≡ definition (s .ellipsoid) (defined .first) (defined .second)
+  unfolding Unrounded.inverse Unrounded.undone
+  same-definition =
+      ap₂ (λ x m0. definition (s .ellipsoid) (pair x m0 .first) (pair x m0 .second)) (sym (north-is s (millionths-of s) m X Y p)) (m .is)
+    where
+      pair : ℤ → ℤ → scaled.Pair
+      pair x m0 = polynomial (b-coefficients (constants (s .ellipsoid))) (Unrounded.centred (constants (s .ellipsoid) .a0) (record { first = defined-length x m0; second = defined-length b m0 }))
+
+  abbrev p-of : Pair
+  p-of = worked-pair s X Y
+
+  B-near : Within 52 (latitude-from (s .ellipsoid) p-of) (definition (s .ellipsoid) (defined .first) (defined .second) .B)
+  unfolding latitude-from worked-pair
+  B-near = latitude-band (s .ellipsoid) _ _ _ (mercator (s .ellipsoid) (millionths-of s) n b (boxed s (millionths-of s) m X Y p))
+
+  L-near : Within 52 (difference-from (s .ellipsoid) (below-zero b) p-of) (definition (s .ellipsoid) (defined .first) (defined .second) .d)
+  unfolding difference-from worked-pair
+  L-near =
+      subst (λ r. Within 52 r (definition (s .ellipsoid) (defined .first) (defined .second) .d)) (sym (turned-both (below-zero b) (below-nought (p-of .im)) _))
+      (difference-band (s .ellipsoid) (side-of (s .ellipsoid) (millionths-of s) n b) _ _ (mercator (s .ellipsoid) (millionths-of s) n b (boxed s (millionths-of s) m X Y p)))
+
+  pub ticks-near : Near-inverse s (Unrounded.inverse s X Y) (worked-ticks s X Y)
+  unfolding worked-ticks
+  ticks-near = subst (λ v. Near-inverse s v (worked-ticks s X Y)) (sym same-definition) (record { B = wider 60 tt B-near; L = wider 60 tt (subst (λ r. Within 52 r (definition (s .ellipsoid) (defined .first) (defined .second) .d)) (sym (less (s .L0) (difference-from (s .ellipsoid) (below-zero b) p-of))) L-near) })
+    where
+      less : (a d : ℤ) → a +ℤ d -ℤ a ≡ d
+      less a d = ring (a ∷ d ∷ []) λ ρ ea ed. simp (Z·ring, ea, ed) (by-ring _ _ _ refl)
+
+  -- the one step in f64 is finite
+  pub pair-finite : both-finite p-of ≡ true
+  unfolding worked-pair
+  pair-finite = passes (worked-pair s X Y) (box-placed (s .ellipsoid) (boxed s (millionths-of s) m X Y p) .tame .numbers)
+
+-- ---- what an answer of the checks says
+passed-4 : (a : Answer System) (f : Bool) (s : System) (X Y : ℤ) → (a >>= λ s. plane-outside if plane-bad s X Y >> (step-not-finite if not f >> answered s)) ≡ answered s → (a ≡ answered s) × (plane-bad s X Y ≡ false)
+passed-4 (refused n) f s X Y e = absurd (let z : _≡_ {A = ℕ} 0 1 = cc in omega arith)
+passed-4 (crossed-at i j) f s X Y e = absurd (let z : _≡_ {A = ℕ} 0 1 = cc in omega arith)
+passed-4 (answered r) f s X Y e = go (plane-bad r X Y) refl f e
+  where
+    go : (b : Bool) → plane-bad r X Y ≡ b → (f : Bool) → (plane-outside if b >> (step-not-finite if not f >> answered r)) ≡ answered s → (answered r ≡ answered s) × (plane-bad s X Y ≡ false)
+    go true g f e = absurd (let z : _≡_ {A = ℕ} 0 1 = cc in omega arith)
+    go false g false e = absurd (let z : _≡_ {A = ℕ} 0 1 = cc in omega arith)
+    go false g true e = let i : r ≡ s = cc in (e, subst (λ t. plane-bad t X Y ≡ false) i g)
+
+pub inverse-passed : (f : Bool) (code : ℕ) (s : System) (X Y : ℤ) → inverse-checks f code X Y ≡ answered s → (system code ≡ answered s) × (plane-bad s X Y ≡ false)
+unfolding inverse-checks
+inverse-passed f code s X Y e = passed-4 (system code) f s X Y e
+
+module _ (code : ℕ) (X Y : ℤ) where
+  by-checks : (a : Answer System) → inverse-checks (inverse-finite code X Y) code X Y ≡ a → Right-inverse-by X Y a (a >>= λ s. judged s (worked-ticks s X Y))
+  by-checks (answered s) e =
+      let h = inverse-passed (inverse-finite code X Y) code s X Y e in
+      (worked-ticks s X Y, refl, ticks-near s (system-millionths code s (h .0)) X Y (h .1))
+  by-checks (refused n) e = refl
+  by-checks (crossed-at i j) e = refl
+
+  -- every answer of the worked inverse is right
+  pub inverse-right : Right-inverse (inverse-finite code X Y) code X Y (worked-inverse code X Y)
+  unfolding worked-inverse
+  inverse-right = by-checks (inverse-checks (inverse-finite code X Y) code X Y) refl
+
+  -- and refusal 10 is never given
+  pub always-finite : (s : System) → system code ≡ answered s → plane-bad s X Y ≡ false → inverse-finite code X Y ≡ true
+  unfolding inverse-finite
+  always-finite s e p = ap (λ a. finite-in a X Y) e ∙ pair-finite s (system-millionths code s e) X Y p

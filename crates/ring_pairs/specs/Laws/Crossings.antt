@@ -1,0 +1,239 @@
+-- The crossing test of two edges, by the tests that the code makes. Assumes nothing.
+use mathlib.Core.Path.{_≡_, refl, sym, _∙_, ap, ap₂, subst}
+use mathlib.Core.Bool.{Bool, true, false, not, _&&_, _||_}
+use mathlib.Core.Logic.{_⊎_, inl, inr, ⊎-elim}
+use mathlib.Core.List.{List, [], _∷_}
+use Prim.Native.Nat.{ℕ, zero, suc}
+use native.Mathlib.Omega.{arith}
+use lib.IntN.{ℤ, pos, _+ℤ_, _-ℤ_, _*ℤ_}
+use lib.Signed.{leZ, ltZ, _≤ℤ_, _<ℤ_, ≤ℤ-refl, <ℤ-≤ℤ-trans}
+use Rattle.arith.specs.Diff.{_⊖_, Z·ℕ, lin}
+use Rattle.arith.specs.Order.{≤ℤ-trans, ≤ℤ-<ℤ-trans, <ℤ-trans, <ℤ→≤ℤ}
+use Rattle.rules.specs.Rings.{Corner, Edge, _to_, D, isZero}
+use Rattle.rules.specs.RingAnswers.{smaller, larger}
+use Rattle.rules.specs.Crossing.{before, overlap, aside, meets, folds}
+use Rattle.rules.specs.Laws.Checks.{ltZ-true, ltZ-false, or-true, or-false}
+use Rattle.ring_pairs.specs.Crossings.{outside, away, straddle, ahead, no-length}
+use Rattle.ring_corners.specs.Sides.{sign-of}
+use Rattle.ring_corners.specs.Laws.Sides.{leZ-true, leZ-false}
+use Rattle.ring_corners.specs.Laws.Tests.{and-true, and-left, and-right, zero-is, zero-sign}
+use Rattle.ring_corners.specs.declared.sides.Sign.{Sign}
+use Rattle.ring_corners.specs.declared.sides.Sign.the-variants.{Positive, Zero, Negative}
+
+-- ---- boxes, by the smaller and the larger end
+implied : (x y : Bool) → (x ≡ true → y ≡ true) → x ≡ (x && y)
+implied true y h = sym (h refl)
+implied false y h = refl
+
+implied′ : (x y : Bool) → (x ≡ true → y ≡ true) → x ≡ (y && x)
+implied′ true y h = sym (and-true (h refl) refl)
+implied′ false y h = sym (and-right y refl)
+
+larger-below : (a b c : ℤ) → ltZ (larger a b) c ≡ (ltZ a c && ltZ b c)
+unfolding larger
+larger-below a b c = go (ltZ a b) refl
+  where
+    go : (t : Bool) → ltZ a b ≡ t → ltZ (elim t [ true ↦ b | false ↦ a ]) c ≡ (ltZ a c && ltZ b c)
+    go true e = implied′ (ltZ b c) (ltZ a c) (λ h. ltZ-true a c .1 (<ℤ-trans (ltZ-true a b .0 e) (ltZ-true b c .0 h)))
+    go false e = implied (ltZ a c) (ltZ b c) (λ h. ltZ-true b c .1 (≤ℤ-<ℤ-trans (ltZ-false a b .0 e) (ltZ-true a c .0 h)))
+
+smaller-above : (a b c : ℤ) → ltZ c (smaller a b) ≡ (ltZ c a && ltZ c b)
+unfolding smaller
+smaller-above a b c = go (ltZ b a) refl
+  where
+    go : (t : Bool) → ltZ b a ≡ t → ltZ c (elim t [ true ↦ b | false ↦ a ]) ≡ (ltZ c a && ltZ c b)
+    go true e = implied′ (ltZ c b) (ltZ c a) (λ h. ltZ-true c a .1 (<ℤ-trans (ltZ-true c b .0 h) (ltZ-true b a .0 e)))
+    go false e = implied (ltZ c a) (ltZ c b) (λ h. ltZ-true c b .1 (<ℤ-≤ℤ-trans (ltZ-true c a .0 h) (ltZ-false b a .0 e)))
+
+and-four : (a b c d : Bool) → ((a && b) && (c && d)) ≡ ((a && c) && (b && d))
+and-four true true c d = refl
+and-four true false true d = refl
+and-four true false false d = refl
+and-four false b c d = refl
+
+neither : (x y : Bool) → not (not x && not y) ≡ (x || y)
+neither true y = refl
+neither false true = refl
+neither false false = refl
+
+pub apart-is : (a b c d : ℤ) → outside (smaller a b) (larger a b) c d ≡ not (overlap a b c d)
+unfolding outside overlap before
+apart-is a b c d =
+    ap₂ _||_
+    (ap₂ _&&_ (larger-below a b c) (larger-below a b d) ∙ and-four (ltZ a c) (ltZ b c) (ltZ a d) (ltZ b d))
+    (ap₂ _&&_ (smaller-above a b c) (smaller-above a b d))
+    ∙ sym (neither ((ltZ a c && ltZ a d) && (ltZ b c && ltZ b d)) ((ltZ c a && ltZ c b) && (ltZ d a && ltZ d b)))
+
+pub low-high : (a b : ℤ) → smaller a b ≤ℤ larger a b
+unfolding smaller larger
+low-high a b = go (ltZ b a) (ltZ a b) refl refl
+  where
+    go : (s t : Bool) → ltZ b a ≡ s → ltZ a b ≡ t → elim s [ true ↦ b | false ↦ a ] ≤ℤ elim t [ true ↦ b | false ↦ a ]
+    go true true e f = ≤ℤ-refl b
+    go true false e f = ltZ-false a b .0 f
+    go false true e f = ltZ-false b a .0 e
+    go false false e f = ≤ℤ-refl a
+
+module _ (low high c d : ℤ) (order : low ≤ℤ high) where
+  pub beyond-above : high <ℤ c → high <ℤ d → outside low high c d ≡ true
+  unfolding outside
+  beyond-above h k = or-true _ _ .1 (inl (and-true (ltZ-true high c .1 h) (ltZ-true high d .1 k)))
+
+  pub not-above : high <ℤ c → d ≤ℤ high → outside low high c d ≡ false
+  unfolding outside
+  not-above h k = or-false _ _ .1 (and-right (ltZ high c) (ltZ-false high d .1 k), and-left _ (ltZ-false c low .1 (≤ℤ-trans order (<ℤ→≤ℤ h))))
+
+  pub beyond-below : c <ℤ low → d <ℤ low → outside low high c d ≡ true
+  unfolding outside
+  beyond-below h k = or-true (ltZ high c && ltZ high d) _ .1 (inr (and-true (ltZ-true c low .1 h) (ltZ-true d low .1 k)))
+
+  pub not-below : c <ℤ low → low ≤ℤ d → outside low high c d ≡ false
+  unfolding outside
+  not-below h k = or-false _ _ .1 (and-left _ (ltZ-false high c .1 (≤ℤ-trans (<ℤ→≤ℤ h) order)), and-right (ltZ c low) (ltZ-false d low .1 k))
+
+  pub not-beyond : c ≤ℤ high → low ≤ℤ c → outside low high c d ≡ false
+  unfolding outside
+  not-beyond h k = or-false _ _ .1 (and-left _ (ltZ-false high c .1 h), and-left _ (ltZ-false c low .1 k))
+
+-- ---- signs
+not-yes : (x : Bool) → not x ≡ true → x ≡ false
+not-yes true e = sym e
+not-yes false e = refl
+
+not-no : (x : Bool) → not x ≡ false → x ≡ true
+not-no true e = refl
+not-no false e = sym e
+
+module _ (s t : ℤ) where
+  pub aside-positive : pos 0 <ℤ s → pos 0 <ℤ t → aside s t ≡ true
+  unfolding aside
+  aside-positive h k = or-true _ _ .1 (inl (and-true (ltZ-true (pos 0) s .1 h) (ltZ-true (pos 0) t .1 k)))
+
+  pub not-positive : pos 0 <ℤ s → t ≤ℤ pos 0 → aside s t ≡ false
+  unfolding aside
+  not-positive h k = or-false _ _ .1 (and-right (ltZ (pos 0) s) (ltZ-false (pos 0) t .1 k), and-left _ (ltZ-false s (pos 0) .1 (<ℤ→≤ℤ h)))
+
+  pub aside-negative : s <ℤ pos 0 → t <ℤ pos 0 → aside s t ≡ true
+  unfolding aside
+  aside-negative h k = or-true (ltZ (pos 0) s && ltZ (pos 0) t) _ .1 (inr (and-true (ltZ-true s (pos 0) .1 h) (ltZ-true t (pos 0) .1 k)))
+
+  pub not-negative : s <ℤ pos 0 → pos 0 ≤ℤ t → aside s t ≡ false
+  unfolding aside
+  not-negative h k = or-false _ _ .1 (and-left _ (ltZ-false (pos 0) s .1 (<ℤ→≤ℤ h)), and-right (ltZ s (pos 0)) (ltZ-false t (pos 0) .1 k))
+
+  pub not-aside : s ≤ℤ pos 0 → pos 0 ≤ℤ s → aside s t ≡ false
+  unfolding aside
+  not-aside h k = or-false _ _ .1 (and-left _ (ltZ-false (pos 0) s .1 h), and-left _ (ltZ-false s (pos 0) .1 k))
+
+module _ (a b c d : Corner) where
+  pub aside-first : aside (D a b c) (D a b d) ≡ true → straddle a b c d ≡ false
+  unfolding straddle
+  aside-first e = and-left _ (ap not e)
+
+  pub aside-second : aside (D c d a) (D c d b) ≡ true → straddle a b c d ≡ false
+  unfolding straddle
+  aside-second e = and-right (not (aside (D a b c) (D a b d))) (ap not e)
+
+  pub aside-neither : aside (D a b c) (D a b d) ≡ false → aside (D c d a) (D c d b) ≡ false → straddle a b c d ≡ true
+  unfolding straddle
+  aside-neither e f = and-true (ap not e) (ap not f)
+
+  -- two edges, by their boxes and then by the sides
+  abbrev over-x : Bool
+  over-x = overlap (a .x) (b .x) (c .x) (d .x)
+
+  abbrev over-y : Bool
+  over-y = overlap (a .y) (b .y) (c .y) (d .y)
+
+  meets-is : meets (a to b) (c to d) ≡ ((over-x && over-y) && straddle a b c d)
+  unfolding meets straddle
+  meets-is = refl
+
+  pub apart-in-x : not over-x ≡ true → meets (a to b) (c to d) ≡ false
+  apart-in-x e = meets-is ∙ and-left (straddle a b c d) (and-left over-y (not-yes over-x e))
+
+  pub apart-in-y : not over-y ≡ true → meets (a to b) (c to d) ≡ false
+  apart-in-y e = meets-is ∙ and-left (straddle a b c d) (and-right over-x (not-yes over-y e))
+
+  pub by-sides : not over-x ≡ false → not over-y ≡ false → meets (a to b) (c to d) ≡ straddle a b c d
+  by-sides e f = meets-is ∙ ap (λ (t : Bool). t && straddle a b c d) (and-true (not-no over-x e) (not-no over-y f))
+
+-- ---- an edge and the one after it
+same-zero : (a b : ℤ) → a ≤ℤ b → b ≤ℤ a → isZero (b -ℤ a) ≡ true
+same-zero a b h k = and-true (leZ-true (b -ℤ a) (pos 0) .1 (up a b k)) (leZ-true (pos 0) (b -ℤ a) .1 (down a b h))
+  where
+    up : (a b : ℤ) → b ≤ℤ a → (b -ℤ a) ≤ℤ pos 0
+    up a b = lin (a ∷ b ∷ []) λ u v e1 e2. simp (Z·ℕ, e1, e2) (omega arith)
+
+    down : (a b : ℤ) → a ≤ℤ b → pos 0 ≤ℤ (b -ℤ a)
+    down a b = lin (a ∷ b ∷ []) λ u v e1 e2. simp (Z·ℕ, e1, e2) (omega arith)
+
+above-zero : (a b : ℤ) → a <ℤ b → isZero (b -ℤ a) ≡ false
+above-zero a b h = and-left _ (leZ-false (b -ℤ a) (pos 0) .1 (up a b h))
+  where
+    up : (a b : ℤ) → a <ℤ b → pos 0 <ℤ (b -ℤ a)
+    up a b = lin (a ∷ b ∷ []) λ u v e1 e2. simp (Z·ℕ, e1, e2) (omega arith)
+
+below-zero : (a b : ℤ) → b <ℤ a → isZero (b -ℤ a) ≡ false
+below-zero a b h = and-right (leZ (b -ℤ a) (pos 0)) (leZ-false (pos 0) (b -ℤ a) .1 (down a b h))
+  where
+    down : (a b : ℤ) → b <ℤ a → (b -ℤ a) <ℤ pos 0
+    down a b = lin (a ∷ b ∷ []) λ u v e1 e2. simp (Z·ℕ, e1, e2) (omega arith)
+
+module _ (a b : Corner) where
+  pub north : a .x <ℤ b .x → no-length a b ≡ false
+  unfolding no-length
+  north h = and-left _ (above-zero (a .x) (b .x) h)
+
+  pub south : b .x <ℤ a .x → no-length a b ≡ false
+  unfolding no-length
+  south h = and-left _ (below-zero (a .x) (b .x) h)
+
+  pub east : a .y <ℤ b .y → no-length a b ≡ false
+  unfolding no-length
+  east h = and-right (isZero (b .x -ℤ a .x)) (above-zero (a .y) (b .y) h)
+
+  pub west : b .y <ℤ a .y → no-length a b ≡ false
+  unfolding no-length
+  west h = and-right (isZero (b .x -ℤ a .x)) (below-zero (a .y) (b .y) h)
+
+  pub none : a .x ≤ℤ b .x → b .x ≤ℤ a .x → a .y ≤ℤ b .y → b .y ≤ℤ a .y → no-length a b ≡ true
+  unfolding no-length
+  none h k l m = and-true (same-zero (a .x) (b .x) h k) (same-zero (a .y) (b .y) l m)
+
+module _ (a b c : Corner) where
+  pub folds-none : no-length a b ≡ true → folds (a to b) (b to c) ≡ true
+  unfolding folds no-length ahead
+  folds-none e = or-true (isZero (D a b c) && ltZ (ahead a b c) (pos 0)) _ .1 (inr e)
+
+  pub folds-back : no-length a b ≡ false → folds (a to b) (b to c) ≡ (isZero (D a b c) && ltZ (ahead a b c) (pos 0))
+  unfolding folds no-length ahead
+  folds-back e = ap (λ (t : Bool). (isZero (D a b c) && ltZ (ahead a b c) (pos 0)) || t) e ∙ or-none (isZero (D a b c) && ltZ (ahead a b c) (pos 0))
+    where
+      or-none : (x : Bool) → (x || false) ≡ x
+      or-none true = refl
+      or-none false = refl
+
+  -- by the sign of D
+  pub not-straight : (s : Sign) → sign-of (D a b c) ≡ s → zero-sign s ≡ false → (isZero (D a b c) && ltZ (ahead a b c) (pos 0)) ≡ false
+  not-straight s e f = and-left _ (zero-is (D a b c) ∙ ap zero-sign e ∙ f)
+
+  pub straight : sign-of (D a b c) ≡ Zero → (isZero (D a b c) && ltZ (ahead a b c) (pos 0)) ≡ ltZ (ahead a b c) (pos 0)
+  straight e = rw (zero-is (D a b c) ∙ ap zero-sign e) refl
+
+-- ---- boxes that are away
+pub away-x : (lx hx ly hy : ℤ) (c d : Corner) → outside lx hx (c .x) (d .x) ≡ true → away lx hx ly hy c d ≡ true
+unfolding away
+away-x lx hx ly hy c d e = or-true _ _ .1 (inl e)
+
+pub away-y : (lx hx ly hy : ℤ) (c d : Corner) → outside lx hx (c .x) (d .x) ≡ false → away lx hx ly hy c d ≡ outside ly hy (c .y) (d .y)
+unfolding away
+away-y lx hx ly hy c d e = rw e refl
+
+-- an edge whose box is away does not meet
+pub away-apart : (a b c d : Corner) → away (smaller (a .x) (b .x)) (larger (a .x) (b .x)) (smaller (a .y) (b .y)) (larger (a .y) (b .y)) c d ≡ true → meets (a to b) (c to d) ≡ false
+unfolding away
+away-apart a b c d e = ⊎-elim
+    (λ f. apart-in-x a b c d (sym (apart-is (a .x) (b .x) (c .x) (d .x)) ∙ f))
+    (λ f. apart-in-y a b c d (sym (apart-is (a .y) (b .y) (c .y) (d .y)) ∙ f))
+    (or-true _ _ .0 e)

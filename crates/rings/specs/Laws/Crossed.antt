@@ -1,0 +1,55 @@
+-- The search for the first crossed pair, lower edge by lower edge. Assumes nothing.
+use mathlib.Core.Path.{_≡_, refl, sym, _∙_, ap}
+use mathlib.Core.Bool.{Bool, true, false}
+use mathlib.Core.Option.{Option, none, some}
+use mathlib.Core.List.{List}
+use Prim.Native.Nat.{ℕ, suc, _+_, _<_, _≤_}
+use native.Mathlib.Numerals.{add-one}
+use native.Mathlib.Omega.{arith}
+use lib.ListN.{length, drop, drop-of-length-le}
+use lib.Seq.{drop-cons}
+use borrow.Author.Tests.{lt-ltb, le-ltb}
+use Rattle.rules.specs.Refusals.{answered, crossed-at, passed}
+use Rattle.rules.specs.Rings.{Corner, _to_, origin, edge, edges, EdgePair}
+use Rattle.rules.specs.RingAnswers.{not-crossed}
+use Rattle.rules.specs.Crossing.{first-with, first-of, crossed}
+use Rattle.rules.specs.Laws.Edges.{length-edges}
+use Rattle.ring_pairs.specs.Crossings.{pair-at, pair-after}
+
+-- the edges before edge k make no pair
+pub record Searched (r : List Corner) (k : ℕ) : Type 0 where
+  pub left : crossed r ≡ first-of (length r) k (drop k (edges r))
+
+pub searched-start : (r : List Corner) → Searched r 0
+unfolding crossed
+searched-start r = record { left = refl }
+
+module _ {r : List Corner} {k : ℕ} (s : Searched r k) where
+  either : Option EdgePair → Option EdgePair
+  either o = elim o [ some t ↦ some t | none ↦ first-of (length r) (suc k) (drop (suc k) (edges r)) ]
+
+  first : k < length r → crossed r ≡ either (pair-after r k)
+  unfolding first-of either pair-after edge
+  first h = s .left ∙ ap (first-of (length r) k) (drop-cons (edges r) k (origin to origin) (let e = length-edges r in omega arith))
+
+  pub searched-hit : (l : ℕ) → k < length r → l < length r → pair-at (length r) k l ≡ pair-after r k → crossed-at k l ≡ not-crossed r
+  unfolding either pair-at not-crossed
+  searched-hit l h g e = sym (ap (λ (o : Option EdgePair). elim o [ none ↦ answered passed | some t ↦ crossed-at (t .low) (t .high) ])
+      (first h ∙ ap either (sym e ∙ ap (λ (t : Bool). elim t [ true ↦ some (record { low = k; high = l }) | false ↦ none ]) (lt-ltb l (length r) g))))
+
+  pub searched-miss : (l : ℕ) → k < length r → length r ≤ l → pair-at (length r) k l ≡ pair-after r k → Searched r (k + 1)
+  unfolding either pair-at
+  searched-miss l h g e = record {
+    left = first h
+        ∙ ap either (sym e ∙ ap (λ (t : Bool). elim t [ true ↦ some (record { low = k; high = l }) | false ↦ none ]) (le-ltb l (length r) g))
+        ∙ ap (λ (i : ℕ). first-of (length r) i (drop i (edges r))) (sym (add-one k));
+  }
+
+  pub searched-end : k + 1 ≡ length r → answered passed ≡ not-crossed r
+  unfolding either first-of first-with pair-after not-crossed
+  searched-end h =
+      let n : length (edges r) ≤ suc k = (let e = length-edges r in omega arith) in
+      sym (ap (λ (o : Option EdgePair). elim o [ none ↦ answered passed | some t ↦ crossed-at (t .low) (t .high) ])
+      (first (omega arith)
+      ∙ ap either (ap (first-with (length r) k (edge r k) (suc k)) (drop-of-length-le (edges r) n))
+      ∙ ap (first-of (length r) (suc k)) (drop-of-length-le (edges r) n)))
