@@ -3,6 +3,7 @@
 -- RingChecks: the same of a ring, 6 (odd length), 7 and 9.
 -- Root, Nearest: the square root is the whole-number one; products and quotients are floors; the rounding is the nearest, ties to even, and the only one.
 -- OwnAnswers: what the definition itself answers is right. Meridian: d = 0 gives Y = y0. Job: no bound on recursion is felt; the job record by record; decimal digits; signed numbers.
+-- Tried: what the definitions compute to.
 -- Signs, Sums, Lines, SameTurning: demand 3. Edges: edge k. Meeting, Folding, Pairs: the crossing test answers by the rule.
 pub mod Codes
 pub mod Checks
@@ -20,3 +21,4 @@ pub mod Edges
 pub mod Meeting
 pub mod Folding
 pub mod Pairs
+pub mod Tried
