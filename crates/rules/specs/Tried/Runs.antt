@@ -1,7 +1,8 @@
 -- 01, Numbers to try, "Run:", of the definitions themselves, with the refusals' order and the rounding. Assumes nothing.
 use mathlib.Core.Path.{_≡_}
-use mathlib.Core.List.{List, [], _∷_}
-use Prim.Native.Nat.{ℕ, _+_, _*_, _^_}
+use mathlib.Core.Bool.{false}
+use mathlib.Core.List.{List, [], _∷_, map}
+use Prim.Native.Nat.{ℕ, _+_, _*_, _-_, _^_}
 use lib.IntN.{ℤ, pos, negℤ}
 use lib.ListN.{replicate}
 use Rattle.rules.specs.Units.{_°_′_″}
@@ -15,6 +16,10 @@ use Rattle.rules.specs.Rings.{origin}
 use Rattle.rules.specs.Conversion.{held, conversion}
 use Rattle.rules.specs.JobFile.{cornered}
 use Rattle.rules.specs.Tried.Kinds.{taken, east}
+
+-- three corners about a number of X
+abbrev far : ℕ → List ℤ
+far X = pos X ∷ pos 0 ∷ pos X ∷ pos 5 ∷ pos (X - 5) ∷ pos 0 ∷ []
 
 pub record Runs : Type 0 where
   -- "B of 48° taken, one tick less refused 2"
@@ -32,6 +37,19 @@ pub record Runs : Type 0 where
   -- "span 20,000,000 taken, 20,000,001 refused 8"
   pub span-taken : N.crossing-answer (pos 0 ∷ pos 0 ∷ pos 20_000_000 ∷ pos 0 ∷ pos 0 ∷ pos 5 ∷ []) ≡ answered passed
   pub span-refused : N.crossing-answer (pos 0 ∷ pos 0 ∷ pos 20_000_001 ∷ pos 0 ∷ pos 0 ∷ pos 5 ∷ []) ≡ refused 8
+  pub span-of-Y-taken : taken (N.area-answer (pos 0 ∷ pos 0 ∷ pos 0 ∷ pos 20_000_000 ∷ pos 5 ∷ pos 0 ∷ [])) ≡ answered 0
+  pub span-of-Y-refused : N.area-answer (pos 0 ∷ pos 0 ∷ pos 0 ∷ pos 20_000_001 ∷ pos 5 ∷ pos 0 ∷ []) ≡ refused 8
+  -- 6: "corner count outside 3 to 1,024", of a ring that is handed over whole
+  pub corners-1024 : taken (N.area-answer (replicate 2048 (pos 0))) ≡ answered 0
+  pub corners-1025 : N.area-answer (replicate 2050 (pos 0)) ≡ refused 6
+  -- 7: "a corner number outside ±10^10"
+  pub far-north-taken : taken (N.area-answer (far 10_000_000_000)) ≡ answered 0
+  pub far-north-refused : N.area-answer (far 10_000_000_001) ≡ refused 7
+  pub far-south-taken : taken (N.area-answer (map negℤ (far 10_000_000_000))) ≡ answered 0
+  pub far-south-refused : N.area-answer (map negℤ (far 10_000_000_001)) ≡ refused 7
+  -- 5: "the two codes have different ellipsoids"; 10: "a step of the projection isn't finite"
+  pub ellipsoids : P.plane 7 8 (pos 0) (pos 0) ≡ refused 5
+  pub not-finite : P.forward-checks false 1 (pos (52 ° 0 ′ 0 ″)) (pos (19 ° 0 ′ 0 ″)) ≡ refused 10
   -- "Order for forward: 1, 2, 3, 10."
   pub first-1 : P.forward 15 (pos 0) (pos 0) ≡ refused 1
   pub then-2 : P.forward 2 (pos 0) (pos 0) ≡ refused 2
