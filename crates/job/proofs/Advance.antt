@@ -12,18 +12,23 @@ use Rattle.rules.specs.Refusals.{body-cut-off}
 use Rattle.rules.specs.Rings as ring
 use Rattle.rules.specs.RingAnswers.{count-bad, span-bad}
 use Rattle.rules.specs.JobFile.{State, no-field, accepted, Step, ending}
+use Rattle.projection.specs.Worked.{worked-forward}
+use Rattle.records.specs.declared.Record as records
 use Rattle.lines.specs.declared.Line.{Line}
 use Rattle.lines.specs.Said.{said, pasted}
 use Rattle.job_state.specs.declared.state.Answer as answers
 use Rattle.job_state.specs.declared.state.Answer.the-variants as case
 use Rattle.job_state.specs.declared.state.Phase as phases
 use Rattle.job_state.specs.declared.state.Phase.the-variants.{Idle, Gathering, Accepted}
+use Rattle.job.specs.declared.run.Held.{Held}
+use Rattle.job.specs.declared.run.Place.{Place}
 use Rattle.job.specs.declared.run.Run.{Run}
+use Rattle.job_state.specs.declared.state.Job.{Job}
 use Rattle.job_state.specs.Gathered.{chosen, ring-of}
-use Rattle.job_state.specs.States.{view-by, view, line, paper}
+use Rattle.job_state.specs.States.{view-by, view, line, paper, stepped, left}
 use Rattle.job.specs.Machine.{running, stopped, advanced, finished, held-of, progress-by}
 use Rattle.job_lines.specs.Printed.{Says, printed-at, refusal-text}
-use Rattle.job.specs.Runs.{refuses, progress, Advancing, ending-by, last, last-text, Finishing}
+use Rattle.job.specs.Runs.{refuses, progress, no-held, place-after, is-refused, run-after, Advancing, ending-by, last, last-text, Finishing}
 
 pub said-short : (l : Line) → l .count ≤ 128 → length (said l) ≤ 128
 said-short l h = simp length-take (omega arith)
@@ -48,19 +53,46 @@ module _ (offset count size : ℕ) where
   next-is (case.Refused n) s = refl
   next-is (case.Crossed i j) s = refl
 
-  pub advances-by : {out out′ : List ℕ} {wrote end : ℕ} {l : Line} {t : rules.Answer Step} (a : answers.Answer) (r : Run)
-      → paper a (view (r .job)) ≡ t → Says (printed-at a offset) l
-      → r .stopped ≡ refuses a → r .place .offset ≡ (offset + size) % 2 ^ 64 → r .place .records ≡ (count + 1) % 2 ^ 64 → held-of (r .held .count) (r .held .bytes) ≡ []
+-- the answer tells whether the record is refused
+refuses-is : (a : answers.Answer) (s : State) → refuses a ≡ is-refused (paper a s)
+refuses-is case.Silent s = refl
+refuses-is (case.Field c n k) s = refl
+refuses-is (case.Nozzle X Y p) s = refl
+refuses-is (case.Point X Y k c) s = refl
+refuses-is (case.Refused n) s = refl
+refuses-is (case.Crossed i j) s = refl
+
+module _ (run : Run) (item : records.Record) (size : ℕ) where
+  placed : {p : Place} → p .offset ≡ (run .place .offset + size) % 2 ^ 64 → p .records ≡ (run .place .records + 1) % 2 ^ 64 → p ≡ place-after (run .place) size
+  placed {p} e f = one e f
+    where
+      one : {a b c d : ℕ} → a ≡ c → b ≡ d → _≡_ {A = Place} (record { offset = a; records = b }) (record { offset = c; records = d })
+      one e f = rw (e, f) refl
+
+  made : {j : Job} {h : Held} {p : Place} {b : Bool} → j ≡ left (stepped worked-forward (view (run .job)) item) item (run .job) → h ≡ no-held
+      → p ≡ place-after (run .place) size → b ≡ is-refused (stepped worked-forward (view (run .job)) item)
+      → record { job = j; held = h; place = p; stopped = b } ≡ run-after run item size
+  made e f g h = rw (e, f, g, h) refl
+
+  pub advances-by : {out out′ : List ℕ} {wrote end : ℕ} {l : Line} (a : answers.Answer) (r : Run)
+      → paper a (view (r .job)) ≡ stepped worked-forward (view (run .job)) item → r .job ≡ left (stepped worked-forward (view (run .job)) item) item (run .job)
+      → Says (printed-at a (run .place .offset)) l → r .stopped ≡ refuses a → r .place .offset ≡ (run .place .offset + size) % 2 ^ 64 → r .place .records ≡ (run .place .records + 1) % 2 ^ 64 → r .held ≡ no-held
       → end ≡ wrote + length (said l) → out′ ≡ pasted wrote (said l) out
-      → Advancing (advanced offset count size t) out wrote (record { run = r; wrote = end }) out′
-  advances-by {out} {out′} {wrote} {end} {l} {t} a r e says st o n h ends holds =
-      rw (← e)
-      (record {
-        short = rw (line-is a (view (r .job)), ← says .says) (said-short l (says .short));
-        end = rw (line-is a (view (r .job)), ← says .says) ends;
-        holds = rw (line-is a (view (r .job)), ← says .says) holds;
-        next = rw (st, o, n, h) (next-is a (view (r .job)));
-      })
+      → Advancing (advanced (run .place .offset) (run .place .records) size (stepped worked-forward (view (run .job)) item)) (run-after run item size) out wrote
+      (record { run = r; wrote = end }) out′
+  advances-by {out} {out′} {wrote} {end} {l} a r e f says st o n h ends holds =
+      let line : advanced (run .place .offset) (run .place .records) size (stepped worked-forward (view (run .job)) item) .printed ≡ said l =
+      ap (λ (t : rules.Answer Step). advanced (run .place .offset) (run .place .records) size t .printed) (sym e)
+      ∙ line-is (run .place .offset) (run .place .records) size a (view (r .job)) ∙ sym (says .says) in
+      record {
+        short = rw line (said-short l (says .short));
+        end = rw line ends;
+        holds = rw line holds;
+        next =
+            rw (st, o, n, h) (next-is (run .place .offset) (run .place .records) size a (view (r .job)))
+            ∙ ap (λ (t : rules.Answer Step). advanced (run .place .offset) (run .place .records) size t .next) e;
+        run-is = made f h (placed o n) (st ∙ refuses-is a (view (r .job)) ∙ ap is-refused e);
+      }
 
 -- ---- the end of the file
 pub ending-is : (p : phases.Phase) (c : ℕ) (r : List ring.Corner) (offset count : ℕ) → ending (view-by p c r) offset count ≡ ending-by p offset count

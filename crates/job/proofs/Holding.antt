@@ -15,10 +15,12 @@ use Rattle.records.specs.declared.Record as code
 use Rattle.records.specs.declared.Cursor as cursors
 use Rattle.records.specs.declared.Read as reader
 use Rattle.records.specs.declared.Read.the-variants.{Whole, Refused, End}
-use Rattle.records.specs.Kinds.{Found, here, nowhere, found}
+use Rattle.records.specs.Laws.Kinds.{Found, here, nowhere, found}
 use Rattle.records.specs.Reader.{parsed, framed, read-at}
 use Rattle.job_state.specs.Gathered.{chosen}
+use Rattle.job.specs.declared.run.Held.{Held}
 use Rattle.job.specs.Machine.{settled, held-of}
+use Rattle.job.specs.Runs.{held-with}
 
 pub few : (c : ℕ) → settled c ≤ 17
 few c = go (ltb 17 c) refl
@@ -34,6 +36,9 @@ pub one-more : (c n b : ℕ) (bytes : List ℕ) → length bytes ≡ 18 → n �
 one-more c n b bytes e h =
     let f = few c in
     ap (λ (k : ℕ). take k (set bytes n b)) (add-one n) ∙ take-suc-set bytes n b (omega arith) ∙ ap (λ (k : ℕ). take k bytes ++ (b ∷ [])) h
+
+pub with-is : (h : Held) (n b : ℕ) → n ≡ settled (h .count) → _≡_ {A = Held} (record { bytes = set (h .bytes) n b; count = n + 1 }) (held-with h b)
+with-is h n b e = ap (λ (k : ℕ). record { bytes = set (h .bytes) k b; count = k + 1 }) e
 
 -- ---- a body that is cut off has at most 16 bytes, so its record at most 17
 cut-short : (p : ℕ) (rest : List ℕ) {a : Answer Row} → Found a → framed 0 rest a ≡ Refused body-cut-off p → length rest ≤ 16

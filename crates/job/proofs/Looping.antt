@@ -20,27 +20,30 @@ use Rattle.records.specs.Reader.{read-at}
 use Rattle.job.specs.declared.run.Held.{Held}
 use Rattle.job.specs.declared.run.Run.{Run}
 use Rattle.job.specs.declared.run.Fed as feds
+use Rattle.job_state.specs.Gathered.{chosen}
 use Rattle.job_state.specs.States.{view, stepped}
 use Rattle.job.specs.Machine.{Progress, running, stopped, Took, advanced, considered, byte-taken, fed, used-in, held-of, progress-by}
 use Rattle.job_lines.specs.Printed.{Says, refusal-text}
-use Rattle.job.specs.Laws.{then-next, then-printed, one-next, one-printed, stopped-next, stopped-printed, stopped-used, byte-used, no-room, none-used}
-use Rattle.job.specs.Runs.{progress, refused-run, Refusing, Feeding}
+use Rattle.job.specs.Laws.Bytes.{then-next, then-printed, one-next, one-printed, stopped-next, stopped-printed, stopped-used, byte-used, no-room, none-used}
+use Rattle.job.specs.Runs.{progress, held-with, run-after, waiting, refused-run, run-by, run-with, run-byte, run-fed, Refusing, Feeding}
+use Rattle.job.specs.Laws.Structs.{run-then, run-one, run-stopped}
 use Rattle.job.proofs.Holding.{kept, cut-held, no-end}
 use Rattle.job.proofs.Advance.{said-short}
 
 -- after the first `at` bytes: how far the run is, and what was written
-pub record Going (p : Progress) (chunk out₀ : List ℕ) (run : Run) (at wrote : ℕ) (out : List ℕ) : Type 0 where
+pub record Going (run₀ : Run) (chunk out₀ : List ℕ) (run : Run) (at wrote : ℕ) (out : List ℕ) : Type 0 where
   pub low : at ≤ length chunk
   pub goes : run .stopped ≡ false
-  pub next : progress run ≡ fed worked-forward p (take at chunk) .next
-  pub counted : wrote ≡ length (fed worked-forward p (take at chunk) .printed)
-  pub holds : out ≡ pasted 0 (fed worked-forward p (take at chunk) .printed) out₀
+  pub next : progress run ≡ fed worked-forward (progress run₀) (take at chunk) .next
+  pub counted : wrote ≡ length (fed worked-forward (progress run₀) (take at chunk) .printed)
+  pub holds : out ≡ pasted 0 (fed worked-forward (progress run₀) (take at chunk) .printed) out₀
   pub long : length out ≡ length out₀
   pub room : wrote ≤ length out₀
-  pub used : used-in worked-forward (length out₀) p chunk ≡ at + used-in worked-forward (length out₀ - wrote) (progress run) (drop at chunk)
+  pub is : run ≡ run-fed run₀ (take at chunk)
+  pub used : used-in worked-forward (length out₀) (progress run₀) chunk ≡ at + used-in worked-forward (length out₀ - wrote) (progress run) (drop at chunk)
 
-pub starts : (run : Run) (chunk out : List ℕ) → run .stopped ≡ false → Going (progress run) chunk out run 0 0 out
-unfolding fed
+pub starts : (run : Run) (chunk out : List ℕ) → run .stopped ≡ false → Going run chunk out run 0 0 out
+unfolding fed run-fed
 starts run chunk out e = record {
   low = omega arith;
   goes = e;
@@ -49,6 +52,7 @@ starts run chunk out e = record {
   holds = refl;
   long = refl;
   room = omega arith;
+  is = refl;
   used = ap (λ (n : ℕ). used-in worked-forward n (progress run) chunk) (all (length out)) ∙ none (used-in worked-forward (length out - 0) (progress run) chunk);
 }
   where
@@ -66,9 +70,14 @@ paste-more a s o n e = rw e (ap (λ (t : List ℕ). t ++ s ++ drop (length a + l
     same : 0 + length a + length s ≡ 0 + length (a ++ s)
     same = let l = length-append a s in omega arith
 
+-- what a byte makes of a run: how far it is then, what is printed, and the struct
+pub record Makes (run : Run) (byte : ℕ) (t : Took) (run′ : Run) : Type 0 where
+  pub taken : byte-taken worked-forward (progress run) byte ≡ t
+  pub made : run-byte run byte ≡ run′
+
 -- ---- one byte
-module _ (run₀ : Run) {chunk out₀ : List ℕ} {run : Run} {at wrote : ℕ} {out : List ℕ} (g : Going (progress run₀) chunk out₀ run at wrote out) (inside : at < length chunk)
-    (room : 128 ≤ length out - wrote) (t : Took) (is : byte-taken worked-forward (progress run) (getD chunk at 0) ≡ t) (short : length (t .printed) ≤ 128) where
+module _ (run₀ : Run) {chunk out₀ : List ℕ} {run : Run} {at wrote : ℕ} {out : List ℕ} (g : Going run₀ chunk out₀ run at wrote out) (inside : at < length chunk)
+    (room : 128 ≤ length out - wrote) {t : Took} {run₁ : Run} (m : Makes run (getD chunk at 0) t run₁) (short : length (t .printed) ≤ 128) where
   next-take : take (at + 1) chunk ≡ take at chunk ++ (getD chunk at 0 ∷ [])
   next-take = ap (λ (k : ℕ). take k chunk) (add-one at) ∙ take-suc chunk at 0 inside
 
@@ -78,14 +87,14 @@ module _ (run₀ : Run) {chunk out₀ : List ℕ} {run : Run} {at wrote : ℕ} {
       ∙ then-next worked-forward (progress run₀) (take at chunk) (getD chunk at 0 ∷ [])
       ∙ ap (λ (q : Progress). fed worked-forward q (getD chunk at 0 ∷ []) .next) (sym (g .next))
       ∙ one-next worked-forward (progress run) (getD chunk at 0)
-      ∙ ap (λ (t : Took). t .next) is
+      ∙ ap (λ (t : Took). t .next) (m .taken)
 
   more-printed : fed worked-forward (progress run₀) (take (at + 1) chunk) .printed ≡ fed worked-forward (progress run₀) (take at chunk) .printed ++ t .printed
   more-printed =
       ap (λ (l : List ℕ). fed worked-forward (progress run₀) l .printed) next-take
       ∙ then-printed worked-forward (progress run₀) (take at chunk) (getD chunk at 0 ∷ [])
       ∙ ap (λ (l : List ℕ). fed worked-forward (progress run₀) (take at chunk) .printed ++ l)
-      (ap (λ (q : Progress). fed worked-forward q (getD chunk at 0 ∷ []) .printed) (sym (g .next)) ∙ one-printed worked-forward (progress run) (getD chunk at 0) ∙ ap (λ (t : Took). t .printed) is)
+      (ap (λ (q : Progress). fed worked-forward q (getD chunk at 0 ∷ []) .printed) (sym (g .next)) ∙ one-printed worked-forward (progress run) (getD chunk at 0) ∙ ap (λ (t : Took). t .printed) (m .taken))
 
   more-count : (w : ℕ) → w ≡ wrote + length (t .printed) → w ≡ length (fed worked-forward (progress run₀) (take (at + 1) chunk) .printed)
   more-count w e =
@@ -106,7 +115,7 @@ module _ (run₀ : Run) {chunk out₀ : List ℕ} {run : Run} {at wrote : ℕ} {
       ∙ ap (λ (n : ℕ). at + n)
       (byte-used worked-forward (length out₀ - wrote) (run .stopped) (view (run .job)) (run .place .offset) (run .place .records) (held-of (run .held .count) (run .held .bytes))
       (getD chunk at 0) (drop (at + 1) chunk) (g .goes) (let l = g .long in omega arith))
-      ∙ ap (λ (t : Took). at + suc (used-in worked-forward (length out₀ - wrote - length (t .printed)) (t .next) (drop (at + 1) chunk))) is
+      ∙ ap (λ (t : Took). at + suc (used-in worked-forward (length out₀ - wrote - length (t .printed)) (t .next) (drop (at + 1) chunk))) (m .taken)
       ∙ ap (λ (n : ℕ). at + suc (used-in worked-forward n (t .next) (drop (at + 1) chunk))) (less (length out₀) wrote (length (t .printed)))
       ∙ one (used-in worked-forward (length out₀ - (wrote + length (t .printed))) (t .next) (drop (at + 1) chunk))
     where
@@ -116,7 +125,12 @@ module _ (run₀ : Run) {chunk out₀ : List ℕ} {run : Run} {at wrote : ℕ} {
       one : (n : ℕ) → at + suc n ≡ at + 1 + n
       one n = omega arith
 
-  module _ (run′ : Run) {wrote′ : ℕ} {out′ : List ℕ} (count : wrote′ ≡ wrote + length (t .printed)) (hold : out′ ≡ pasted wrote (t .printed) out) (far : progress run′ ≡ t .next) where
+  more-run : run-fed run₀ (take (at + 1) chunk) ≡ run₁
+  more-run =
+      ap (run-fed run₀) next-take ∙ run-then run₀ (take at chunk) (getD chunk at 0 ∷ []) ∙ ap (λ (r : Run). run-fed r (getD chunk at 0 ∷ [])) (sym (g .is))
+      ∙ run-one run (getD chunk at 0) ∙ m .made
+
+  module _ (run′ : Run) {wrote′ : ℕ} {out′ : List ℕ} (count : wrote′ ≡ wrote + length (t .printed)) (hold : out′ ≡ pasted wrote (t .printed) out) (far : progress run′ ≡ t .next) (same : run′ ≡ run₁) where
     pub same-long : length out′ ≡ length out₀
     same-long =
         let l = g .long in
@@ -124,7 +138,7 @@ module _ (run₀ : Run) {chunk out₀ : List ℕ} {run : Run} {at wrote : ℕ} {
         ∙ ap (λ (n : ℕ). n + length (drop (wrote + length (t .printed)) out)) (length-append (take wrote out) (t .printed))
         ∙ (let a = length-take-le wrote out (omega arith) in let b = length-drop (wrote + length (t .printed)) out in omega arith)
 
-    pub goes-on : run′ .stopped ≡ false → Going (progress run₀) chunk out₀ run′ (at + 1) wrote′ out′
+    pub goes-on : run′ .stopped ≡ false → Going run₀ chunk out₀ run′ (at + 1) wrote′ out′
     goes-on e = record {
       low = omega arith;
       goes = e;
@@ -133,6 +147,7 @@ module _ (run₀ : Run) {chunk out₀ : List ℕ} {run : Run} {at wrote : ℕ} {
       holds = more-holds out′ hold;
       long = same-long;
       room = let l = g .long in omega arith;
+      is = same ∙ sym more-run;
       used =
           more-used ∙ ap (λ (n : ℕ). at + 1 + used-in worked-forward (length out₀ - n) (t .next) (drop (at + 1) chunk)) (sym count)
           ∙ ap (λ (q : Progress). at + 1 + used-in worked-forward (length out₀ - wrote′) q (drop (at + 1) chunk)) (sym far);
@@ -163,13 +178,16 @@ module _ (run₀ : Run) {chunk out₀ : List ℕ} {run : Run} {at wrote : ℕ} {
           holds = more-holds out′ hold ∙ ap (λ (l : List ℕ). pasted 0 l out₀) (sym printed-all);
           inside = omega arith;
           room = let l = g .long in omega arith;
+          run-is =
+              sym (ap (run-fed run₀) whole ∙ run-then run₀ (take (at + 1) chunk) (drop (at + 1) chunk)
+              ∙ ap (λ (r : Run). run-fed r (drop (at + 1) chunk)) (more-run ∙ sym same) ∙ run-stopped run′ (drop (at + 1) chunk) e);
         }
       where
         sum : (n : ℕ) → length (drop (at + 1) chunk) ≡ n - (at + 1) → at < n → n ≡ at + 1 + length (drop (at + 1) chunk)
         sum n e h = omega arith
 
 -- ---- the loop's ends
-module _ (run₀ : Run) {chunk out₀ : List ℕ} {run : Run} {at wrote : ℕ} {out : List ℕ} (g : Going (progress run₀) chunk out₀ run at wrote out) where
+module _ (run₀ : Run) {chunk out₀ : List ℕ} {run : Run} {at wrote : ℕ} {out : List ℕ} (g : Going run₀ chunk out₀ run at wrote out) where
   pub full : at < length chunk → length out - wrote < 128 → Feeding run₀ chunk out₀ (record { run = run; used = at; wrote = wrote }) out
   full inside h = record {
     used =
@@ -183,6 +201,7 @@ module _ (run₀ : Run) {chunk out₀ : List ℕ} {run : Run} {at wrote : ℕ} {
     holds = g .holds;
     inside = g .low;
     room = g .room;
+    run-is = g .is;
   }
     where
       none : (n : ℕ) → n + 0 ≡ n
@@ -198,6 +217,7 @@ module _ (run₀ : Run) {chunk out₀ : List ℕ} {run : Run} {at wrote : ℕ} {
     holds = g .holds;
     inside = g .low;
     room = g .room;
+    run-is = g .is;
   }
     where
       none : (n : ℕ) → n + 0 ≡ n
@@ -215,18 +235,16 @@ stopped-before run chunk out u e f =
       holds = ap (λ (l : List ℕ). pasted 0 l out) (sym n);
       inside = omega arith;
       room = omega arith;
+      run-is = sym (run-stopped run (take u chunk) e);
     }
 
--- the run with other bytes held, and that more are awaited
-abbrev pub waiting : Run → Held → Run
-waiting run begun = record { job = run .job; held = begun; place = run .place; stopped = run .stopped }
-
+-- how far a run is that awaits more bytes
 abbrev pub waits : Run → Held → Took
 waits run begun = record { next = running (view (run .job)) (run .place .offset) (run .place .records) (take (begun .count) (begun .bytes)); printed = [] }
 
 -- ---- what a byte makes of a run, by what stands in the bytes that are then held
 module _ (run : Run) (byte : ℕ) (begun : Held) (found : reader.Read) (goes : run .stopped ≡ false)
-    (held : take (begun .count) (begun .bytes) ≡ held-of (run .held .count) (run .held .bytes) ++ (byte ∷ [])) (read : found ≡ read-at (take (begun .count) (begun .bytes)) 0) where
+    (held : take (begun .count) (begun .bytes) ≡ held-of (run .held .count) (run .held .bytes) ++ (byte ∷ [])) (with : begun ≡ held-with (run .held) byte) (read : found ≡ read-at (take (begun .count) (begun .bytes)) 0) where
   taken-as : byte-taken worked-forward (progress run) byte
       ≡ considered worked-forward (view (run .job)) (run .place .offset) (run .place .records) (take (begun .count) (begun .bytes)) found
   taken-as =
@@ -234,19 +252,28 @@ module _ (run : Run) (byte : ℕ) (begun : Held) (found : reader.Read) (goes : r
       ∙ ap (λ (l : List ℕ). considered worked-forward (view (run .job)) (run .place .offset) (run .place .records) l (read-at l 0)) (sym held)
       ∙ ap (λ (r : reader.Read). considered worked-forward (view (run .job)) (run .place .offset) (run .place .records) (take (begun .count) (begun .bytes)) r) (sym read)
 
-  pub whole-taken : (r : code.Record) (c : cursors.Cursor) → found ≡ Whole r c
-      → byte-taken worked-forward (progress run) byte ≡ advanced (run .place .offset) (run .place .records) (c .at) (stepped worked-forward (view (run .job)) r)
-  unfolding considered
-  whole-taken r c e = taken-as ∙ rw e refl
+  made-as : run-byte run byte ≡ run-by run begun found
+  unfolding run-byte
+  made-as =
+      ap (λ (b : Bool). chosen b run (run-with run (held-with (run .held) byte))) goes ∙ ap (λ (h : Held). run-with run h) (sym with)
+      ∙ ap (λ (r : reader.Read). run-by run begun r) (sym read)
 
-  pub cut-taken : (n at : ℕ) → found ≡ Refused n at → n ≡ body-cut-off → byte-taken worked-forward (progress run) byte ≡ waits run begun
+  pub whole-taken : (r : code.Record) (c : cursors.Cursor) → found ≡ Whole r c
+      → Makes run byte (advanced (run .place .offset) (run .place .records) (c .at) (stepped worked-forward (view (run .job)) r)) (run-after run r (c .at))
   unfolding considered
-  cut-taken n at e f = taken-as ∙ rw (e, f) refl
+  whole-taken r c e = record { taken = taken-as ∙ rw e refl; made = made-as ∙ rw e refl }
+
+  pub cut-taken : (n at : ℕ) → found ≡ Refused n at → n ≡ body-cut-off → Makes run byte (waits run begun) (waiting run begun)
+  unfolding considered
+  cut-taken n at e f = record { taken = taken-as ∙ rw (e, f) refl; made = made-as ∙ rw (e, f) refl }
 
   pub unknown-taken : (n at : ℕ) → found ≡ Refused n at → (n ≡ body-cut-off → ⊥)
-      → byte-taken worked-forward (progress run) byte ≡ record { next = stopped; printed = refusal-text n (run .place .offset) }
+      → Makes run byte (record { next = stopped; printed = refusal-text n (run .place .offset) }) (refused-run run)
   unfolding considered
-  unknown-taken n at e f = taken-as ∙ rw e (rw (ne-eqb n body-cut-off f) refl)
+  unknown-taken n at e f = record {
+    taken = taken-as ∙ rw e (rw (ne-eqb n body-cut-off f) refl);
+    made = made-as ∙ rw e (rw (ne-eqb n body-cut-off f) refl);
+  }
 
   still-held : begun .count ≤ 17 → progress (waiting run begun) ≡ waits run begun .next
   still-held h =

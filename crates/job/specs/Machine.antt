@@ -10,7 +10,7 @@ use lib.ListN.{length, take}
 use Rattle.rules.specs.Refusals as rules
 use Rattle.rules.specs.Refusals.{answered, refused, crossed-at, body-cut-off}
 use Rattle.rules.specs.Points as points
-use Rattle.rules.specs.JobFile.{State, Step, ending}
+use Rattle.rules.specs.JobFile.{State, no-field, Step, ending}
 use Rattle.records.specs.declared.Read as reader
 use Rattle.records.specs.declared.Read.the-variants.{Whole, Refused, End}
 use Rattle.records.specs.Reader.{read-at}
@@ -23,10 +23,18 @@ pub data Progress : Type 0 where
   running : State → ℕ → ℕ → List ℕ → Progress
   stopped : Progress
 
+abbrev pub start : Progress
+start = running no-field 0 0 []
+
 -- what bytes make of it: how far it is then, and what is printed
 pub record Took : Type 0 where
   pub next : Progress
   pub printed : List ℕ
+
+-- the bytes of chunks, in their order
+unfoldable pub joined : List (List ℕ) → List ℕ
+joined [] = []
+joined (c ∷ cs) = c ++ joined cs
 
 -- a whole record of `size` bytes, by what the rules make of it
 unfoldable pub advanced : ℕ → ℕ → ℕ → rules.Answer Step → Took
@@ -62,7 +70,7 @@ module _ (forward-at : ℕ → ℤ → ℤ → rules.Answer points.Point) where
       chosen (ltb room 128) 0
       (suc (used-in (room - length (byte-taken (running s offset count held) byte .printed)) (byte-taken (running s offset count held) byte .next) bytes))
 
-  -- chunks, one after another
+  -- chunks, one after another: the bytes of `joined`
   unfoldable pub over : Progress → List (List ℕ) → Took
   over p [] = record { next = p; printed = [] }
   over p (chunk ∷ chunks) = record { next = over (fed p chunk .next) chunks .next; printed = fed p chunk .printed ++ over (fed p chunk .next) chunks .printed }

@@ -8,10 +8,9 @@ ghost use lib.ListN.{length, take};
 ghost use Rattle.projection.specs.Worked.{worked-forward};
 ghost use Rattle.records.specs.Reader.{read-at};
 ghost use Rattle.job_state.specs.States.{view, stepped};
-ghost use Rattle.job.specs.Machine.{running, advanced, settled, held-of};
+ghost use Rattle.job.specs.Machine.{advanced, settled, held-of};
 ghost use Rattle.job_lines.specs.Printed.{Says};
-ghost use Rattle.rules.specs.JobFile.{no-field};
-ghost use Rattle.job.specs.Runs.{Advancing, Refusing, Feeding, Finishing, progress, refuses, ending-by, last};
+ghost use Rattle.job.specs.Runs.{Advancing, Refusing, Feeding, Finishing, no-held, new-run, held-with, run-after, refuses, ending-by, last};
 use crate::line;
 use crate::state::Answer;
 use crate::state::Job;
@@ -54,7 +53,7 @@ struct Advanced {
 
 impl Held {
     fn none() -> Held
-        ensures { λ r. ⌜ held-of (r .count) (r .bytes) ≡ [] ⌝ }
+        ensures { λ r. ⌜ r ≡ no-held ⌝ }
     {
         Held {
             bytes: [0u8; 18],
@@ -64,7 +63,7 @@ impl Held {
 
     // One byte more.
     fn with(mut self, byte: u8) -> Held
-        ensures { λ r. ⌜ (r .count ≤ 18) × (take (r .count) (r .bytes) ≡ held-of (self .count) (self .bytes) ++ (byte ∷ [])) × (length (r .bytes) ≡ 18) ⌝ }
+        ensures { λ r. ⌜ (r .count ≤ 18) × (take (r .count) (r .bytes) ≡ held-of (self .count) (self .bytes) ++ (byte ∷ [])) × (length (r .bytes) ≡ 18) × (r ≡ held-with self byte) ⌝ }
     {
         let at = settled(self.count);
         self.bytes[at] = byte;
@@ -118,7 +117,7 @@ fn refuses(answer: Answer) -> bool
 
 impl Run {
     pub fn new() -> Run
-        ensures { λ r. ⌜ progress r ≡ running no-field 0 0 [] ⌝ }
+        ensures { λ r. ⌜ r ≡ new-run ⌝ }
     {
         Run {
             job: Job::new(),
@@ -134,7 +133,7 @@ impl Run {
     // One whole record of `size` bytes: the job after it, and its line behind what was written.
     fn advance(self, item: Record, size: usize, out: &mut [u8], wrote: usize) -> Advanced
         requires { ⌜ wrote + 128 ≤ length (now out) ⌝ }
-        ensures { λ r. ⌜ Advancing (advanced (self .place .offset) (self .place .records) size (stepped worked-forward (view (self .job)) item)) (now (out .entry)) wrote r (now (out .exit)) ⌝ }
+        ensures { λ r. ⌜ Advancing (advanced (self .place .offset) (self .place .records) size (stepped worked-forward (view (self .job)) item)) (run-after self item size) (now (out .entry)) wrote r (now (out .exit)) ⌝ }
     {
         let job = self.job;
         let place = self.place;

@@ -41,21 +41,32 @@ use Rattle.job_state.specs.declared.state.Job.{Job}
 use Rattle.job_state.specs.declared.state.Taken.{Taken}
 use Rattle.job_state.proofs.Limits.{count-kept, ring-length, same-ring, one-corner-more}
 use Rattle.job_state.specs.Gathered.{chosen, at, ring-of, counted, judged, judged-paper, located}
-use Rattle.job_state.specs.States.{view-by, view, line, paper, query-said, point-said, stepped, Kept, Stepping}
+use Rattle.job_state.specs.States.{view-by, view, line, paper, query-said, point-said, stepped, left, Stepping}
 
 pub view-at : (j : Job) {p : phases.Phase} → j .phase ≡ p → view j ≡ view-by p (j .code) (ring-of (j .count) (j .corners))
 view-at j e = ap (λ (p : phases.Phase). view-by p (j .code) (ring-of (j .count) (j .corners))) e
 
-pub stepping-at : {s t : rules.Answer Step} {j : Job} {r : Taken} → s ≡ t → Stepping t j r → Stepping s j r
+pub stepping-at : {s t : rules.Answer Step} {i : records.Record} {j : Job} {r : Taken} → s ≡ t → Stepping t i j r → Stepping s i j r
 stepping-at e h = rw e h
 
-pub refusing : (n : ℕ) (j : Job) {r : Taken} → r .job ≡ j → r .answer ≡ Refused n → Stepping (refused n) j r
-refusing n j e f = rw (e, f) (record { says = refl; kept = refl })
+pub refusing : (n : ℕ) {i : records.Record} (j : Job) {r : Taken} → r .job ≡ j → r .answer ≡ Refused n → Stepping (refused n) i j r
+refusing n j e f = rw (e, f) (record { says = refl; leaves = refl })
 
 -- signed arguments, read back from their bits
-pub read-two : {j : Job} {r : Taken} (F : ℤ → ℤ → rules.Answer Step) (x y : ℤ) → SFits w64 x → SFits w64 y
-    → Stepping (F (toZ w64 (ofZ w64 x)) (toZ w64 (ofZ w64 y))) j r → Stepping (F x y) j r
-read-two F x y f g h = rw (toZ-ofZ f, toZ-ofZ g) at h
+pub read-two : {j : Job} {r : Taken} (F : ℤ → ℤ → rules.Answer Step) (I : ℤ → ℤ → records.Record) (x y : ℤ) → SFits w64 x → SFits w64 y
+    → Stepping (F (toZ w64 (ofZ w64 x)) (toZ w64 (ofZ w64 y))) (I (toZ w64 (ofZ w64 x)) (toZ w64 (ofZ w64 y))) j r → Stepping (F x y) (I x y) j r
+read-two F I x y f g h = rw (toZ-ofZ f, toZ-ofZ g) at h
+
+-- a query and a point leave the job as it was, answered or refused
+query-leaves : (s : rules.Answer Step) (X Y : ℤ) (j : Job) → left s (record-case.Query X Y) j ≡ j
+query-leaves (answered d) X Y j = refl
+query-leaves (refused n) X Y j = refl
+query-leaves (crossed-at i l) X Y j = refl
+
+point-leaves : (s : rules.Answer Step) (c : ℕ) (B L : ℤ) (j : Job) → left s (record-case.Point c B L) j ≡ j
+point-leaves (answered d) c B L j = refl
+point-leaves (refused n) c B L j = refl
+point-leaves (crossed-at i l) c B L j = refl
 
 -- ---- a record out of its place, and those that any state without a gathered field takes alike
 module _ (f : ℕ → ℤ → ℤ → rules.Answer points.Point) where
@@ -156,7 +167,7 @@ module _ (f : ℕ → ℤ → ℤ → rules.Answer points.Point) where
 
   pub accepted-query : (j : Job) (X Y : ℤ) (l : place.NozzleAnswer) (a : answers.Answer) (n : ℕ) → j .phase ≡ Accepted → length (j .corners) ≡ 1024 → n ≡ counted (j .count)
       → nozzle-paper l ≡ located (ring-of n (j .corners)) (at X Y) → a ≡ query-said l X Y
-      → Stepping (stepped f (view j) (record-case.Query X Y)) j (record { job = j; answer = a })
+      → Stepping (stepped f (view j) (record-case.Query X Y)) (record-case.Query X Y) j (record { job = j; answer = a })
   unfolding located
   accepted-query j X Y l a n e long all h g =
       let k = h ∙ ap (λ (n : ℕ). located (ring-of n (j .corners)) (at X Y)) all ∙ ap (λ (r : List ring.Corner). located r (at X Y)) (same-ring (j .corners) (j .count) long) in
@@ -165,25 +176,18 @@ module _ (f : ℕ → ℤ → ℤ → rules.Answer points.Point) where
         says =
             subst (λ (s : State). paper (query-said l X Y) s ≡ stepped f s (record-case.Query X Y)) (sym (view-at j e))
             (open-query (ring-of (j .count) (j .corners)) X Y l (count-bad (ring-of (j .count) (j .corners))) (span-bad (ring-of (j .count) (j .corners))) k);
-        kept = query-kept l;
+        leaves = sym (query-leaves (stepped f (view j) (record-case.Query X Y)) X Y j);
       })
-    where
-      query-kept : (l : place.NozzleAnswer) → Kept (query-said l X Y) j j
-      query-kept located-case.Open = tt
-      query-kept located-case.Border = tt
-      query-kept located-case.Shut = tt
-      query-kept (located-case.Crossed i l) = refl
-      query-kept (located-case.Refused n) = refl
 
 -- ---- kind 1
 module _ (j : Job) (c : ℕ) where
-  pub no-system : ¬ ((1 ≤ c) × (c ≤ 14)) → Stepping (begun c) j (record { job = j; answer = Refused 1 })
+  pub no-system : ¬ ((1 ≤ c) × (c ≤ 14)) → Stepping (begun c) (record-case.Begin c) j (record { job = j; answer = Refused 1 })
   unfolding begun
-  no-system h = rw (unknown c h) (record { says = refl; kept = refl })
+  no-system h = rw (unknown c h) (record { says = refl; leaves = refl })
 
-  pub field-begun : 1 ≤ c → c ≤ 14 → Stepping (begun c) j (record { job = record { corners = j .corners; count = 0; code = c; phase = Gathering }; answer = Silent })
+  pub field-begun : 1 ≤ c → c ≤ 14 → Stepping (begun c) (record-case.Begin c) j (record { job = record { corners = j .corners; count = 0; code = c; phase = Gathering }; answer = Silent })
   unfolding begun line ring-of
-  field-begun h g = rw (known c h g .1) (record { says = refl; kept = tt })
+  field-begun h g = rw (known c h g .1) (record { says = refl; leaves = refl })
 
 -- ---- kind 2, of a field that is gathered
 module _ (j : Job) (gathers : j .phase ≡ Gathering) (long : length (j .corners) ≡ 1024) (X Y : ℤ) where
@@ -198,9 +202,9 @@ module _ (j : Job) (gathers : j .phase ≡ Gathering) (long : length (j .corners
   unfolding cornered checked
   is-checked = ap (λ (n : ℕ). checked (leb 1024 n) (number-bad X) (number-bad Y)) (ring-length (j .corners) (j .count) long)
 
-  pub full : 1024 ≤ j .count → Stepping (cornered (j .code) (ring-of (j .count) (j .corners)) X Y) j (record { job = j; answer = Refused 6 })
+  pub full : 1024 ≤ j .count → Stepping (cornered (j .code) (ring-of (j .count) (j .corners)) X Y) (record-case.Corner X Y) j (record { job = j; answer = Refused 6 })
   unfolding checked
-  full h = rw is-checked (rw (all (j .count) h) (record { says = refl; kept = refl }))
+  full h = rw is-checked (rw (all (j .count) h) (record { says = refl; leaves = refl }))
     where
       all : (n : ℕ) → 1024 ≤ n → leb 1024 (counted n) ≡ true
       all n h = go (ltb 1024 n) refl
@@ -213,17 +217,17 @@ module _ (j : Job) (gathers : j .phase ≡ Gathering) (long : length (j .corners
     has-room : leb 1024 (counted (j .count)) ≡ false
     has-room = rw (count-kept (j .count) room) (lt-leb 1024 (j .count) room)
 
-    pub bad-x : number-bad X ≡ true → Stepping (cornered (j .code) (ring-of (j .count) (j .corners)) X Y) j (record { job = j; answer = Refused 7 })
+    pub bad-x : number-bad X ≡ true → Stepping (cornered (j .code) (ring-of (j .count) (j .corners)) X Y) (record-case.Corner X Y) j (record { job = j; answer = Refused 7 })
     unfolding checked
-    bad-x h = rw is-checked (rw (has-room, h) (record { says = refl; kept = refl }))
+    bad-x h = rw is-checked (rw (has-room, h) (record { says = refl; leaves = refl }))
 
     pub bad-y : number-bad X ≡ false → number-bad Y ≡ true
-        → Stepping (cornered (j .code) (ring-of (j .count) (j .corners)) X Y) j (record { job = j; answer = Refused 7 })
+        → Stepping (cornered (j .code) (ring-of (j .count) (j .corners)) X Y) (record-case.Corner X Y) j (record { job = j; answer = Refused 7 })
     unfolding checked
-    bad-y g h = rw is-checked (rw (has-room, g, h) (record { says = refl; kept = refl }))
+    bad-y g h = rw is-checked (rw (has-room, g, h) (record { says = refl; leaves = refl }))
 
     pub gathered : number-bad X ≡ false → number-bad Y ≡ false
-        → Stepping (cornered (j .code) (ring-of (j .count) (j .corners)) X Y) j
+        → Stepping (cornered (j .code) (ring-of (j .count) (j .corners)) X Y) (record-case.Corner X Y) j
         (record { job = record { corners = set (j .corners) (j .count) (record { x = X; y = Y }); count = j .count + 1; code = j .code; phase = j .phase }; answer = Silent })
     unfolding checked line
     gathered g h =
@@ -234,7 +238,7 @@ module _ (j : Job) (gathers : j .phase ≡ Gathering) (long : length (j .corners
               ap (λ (s : State). print s [])
               (view-at (record { corners = set (j .corners) (j .count) (record { x = X; y = Y }); count = j .count + 1; code = j .code; phase = j .phase }) gathers
               ∙ ap (gathering (j .code)) (one-corner-more (j .corners) (j .count) long (record { x = X; y = Y }) room g h));
-          kept = tt;
+          leaves = refl;
         }))
 
 -- ---- kind 3, of a field that is gathered
@@ -290,37 +294,45 @@ module _ (j : Job) (long : length (j .corners) ≡ 1024) (p : judgement.Judged) 
   at-ring = told ∙ ap judged ring-same
 
   pub accepts : (k l : ℤ) → p ≡ judged-case.Area k → l ≡ k
-      → Stepping (closed (j .code) (ring-of (j .count) (j .corners))) j
+      → Stepping (closed (j .code) (ring-of (j .count) (j .corners))) record-case.Close j
       (record { job = record { corners = j .corners; count = n; code = j .code; phase = Accepted }; answer = Field (j .code) n l })
   unfolding closed judged closing judging line
   accepts k l e same =
       let r = ring-of (j .count) (j .corners) in
+      let s = ap (λ (r : List ring.Corner). print (view-by Accepted (j .code) r) (line (Field (j .code) n k))) ring-same
+      ∙ accept-by (j .code) n r ring-long k (count-bad r) (span-bad r) (not-crossed r) (ap judged-paper (sym e) ∙ at-ring) in
       rw same
       (record {
-        says =
-            ap (λ (r : List ring.Corner). print (view-by Accepted (j .code) r) (line (Field (j .code) n k))) ring-same
-            ∙ accept-by (j .code) n r ring-long k (count-bad r) (span-bad r) (not-crossed r) (ap judged-paper (sym e) ∙ at-ring);
-        kept = tt;
+        says = s;
+        leaves =
+            ap (λ (n : ℕ). record { corners = j .corners; count = n; code = j .code; phase = Accepted }) all
+            ∙ ap (λ (s : rules.Answer Step). left s record-case.Close j) s;
       })
 
-  pub refuses : (k : ℕ) → p ≡ judged-case.Refused k → Stepping (closed (j .code) (ring-of (j .count) (j .corners))) j (record { job = j; answer = Refused k })
+  pub refuses : (k : ℕ) → p ≡ judged-case.Refused k → Stepping (closed (j .code) (ring-of (j .count) (j .corners))) record-case.Close j (record { job = j; answer = Refused k })
   unfolding closed judged closing judging line
   refuses k e =
       let r = ring-of (j .count) (j .corners) in
-      record { says = refuse-by (j .code) n r ring-long k (count-bad r) (span-bad r) (not-crossed r) (ap judged-paper (sym e) ∙ at-ring); kept = refl }
+      let s = refuse-by (j .code) n r ring-long k (count-bad r) (span-bad r) (not-crossed r) (ap judged-paper (sym e) ∙ at-ring) in
+      record { says = s; leaves = ap (λ (s : rules.Answer Step). left s record-case.Close j) s }
 
-  pub crosses : (i l : ℕ) → p ≡ judged-case.Crossed i l → Stepping (closed (j .code) (ring-of (j .count) (j .corners))) j (record { job = j; answer = Crossed i l })
+  pub crosses : (i l : ℕ) → p ≡ judged-case.Crossed i l → Stepping (closed (j .code) (ring-of (j .count) (j .corners))) record-case.Close j (record { job = j; answer = Crossed i l })
   unfolding closed judged closing judging line
   crosses i l e =
       let r = ring-of (j .count) (j .corners) in
-      record { says = cross-by (j .code) n r ring-long i l (count-bad r) (span-bad r) (not-crossed r) (ap judged-paper (sym e) ∙ at-ring); kept = refl }
+      let s = cross-by (j .code) n r ring-long i l (count-bad r) (span-bad r) (not-crossed r) (ap judged-paper (sym e) ∙ at-ring) in
+      record { says = s; leaves = ap (λ (s : rules.Answer Step). left s record-case.Close j) s }
 
 -- ---- kind 5
-pub point-by : (j : Job) (a : answers.Answer) (p : projected.ForwardAnswer) (w : rules.Answer points.Point) → a ≡ point-said p → forward-paper p ≡ w
-    → Stepping (pointed (view j) w) j (record { job = j; answer = a })
-unfolding pointed line
-point-by j a (projected-case.Point X Y s c) w e h = rw (e, ← h) (record { says = refl; kept = tt })
-point-by j a (projected-case.Refused n) w e h = rw (e, ← h) (record { says = refl; kept = refl })
+module _ (c : ℕ) (B L : ℤ) where
+  pub point-by : (j : Job) (a : answers.Answer) (p : projected.ForwardAnswer) (w : rules.Answer points.Point) → a ≡ point-said p → forward-paper p ≡ w
+      → Stepping (pointed (view j) w) (record-case.Point c B L) j (record { job = j; answer = a })
+  unfolding pointed line
+  point-by j a p w e h = record { says = ap (λ (a : answers.Answer). paper a (view j)) e ∙ said-by p h; leaves = sym (point-leaves (pointed (view j) w) c B L j) }
+    where
+      said-by : (p : projected.ForwardAnswer) → forward-paper p ≡ w → paper (point-said p) (view j) ≡ pointed (view j) w
+      said-by (projected-case.Point X Y s d) h = rw (← h) refl
+      said-by (projected-case.Refused n) h = rw (← h) refl
 
 pub point-is : {p : projected.ForwardAnswer} {X Y s c : ℤ} → p ≡ projected-case.Point X Y s c → mag X < 2 ^ 63 → mag Y < 2 ^ 63 → mag s < 2 ^ 63 → mag c < 2 ^ 63
     → Point (toZ w64 (ofZ w64 X)) (toZ w64 (ofZ w64 Y)) (toZ w64 (ofZ w64 s)) (toZ w64 (ofZ w64 c)) ≡ point-said p
@@ -336,7 +348,7 @@ pub nozzle-is : {l l′ : place.NozzleAnswer} {X Y : ℤ} (p : positions.Positio
 nozzle-is p e h f g = rw (e, toZ-ofZ f, toZ-ofZ g) (sym h)
 
 pub of-item : (f : ℕ → ℤ → ℤ → rules.Answer points.Point) {i i′ : records.Record} (s : State) {j : Job} {r : Taken} → i ≡ i′
-    → Stepping (stepped f s i′) j r → Stepping (stepped f s i) j r
+    → Stepping (stepped f s i′) i′ j r → Stepping (stepped f s i) i j r
 of-item f s e h = rw e h
 
 pub none-accepted : {l l′ : place.NozzleAnswer} (X Y : ℤ) → l ≡ l′ → query-said l′ X Y ≡ Refused 13 → Refused 13 ≡ query-said l X Y

@@ -1,10 +1,11 @@
--- The job's state as one of the rules' states, whatever the struct holds; the paper's number and values of each answer; and what a record makes of a state,
--- by the rules. Assumes nothing.
+-- The job's state as one of the rules' states, whatever the struct holds; the paper's number and values of each answer; what a record makes of a state, by the
+-- rules; and what it makes of the struct. Assumes nothing.
 use mathlib.Core.Path.{_≡_}
 use mathlib.Core.Bool.{_||_}
 use mathlib.Core.List.{List, [], _++_}
-use Prim.Native.Nat.{ℕ}
-use lib.IntN.{ℤ}
+use Prim.Native.Nat.{ℕ, _+_}
+use lib.IntN.{ℤ, pos}
+use lib.ListN.{replicate, set}
 use Rattle.rules.specs.Refusals as rules
 use Rattle.rules.specs.Refusals.{refused, crossed-at, out-of-place}
 use Rattle.rules.specs.Points as points
@@ -25,7 +26,7 @@ use Rattle.job_state.specs.declared.state.Answer as answers
 use Rattle.job_state.specs.declared.state.Answer.the-variants.{Silent, Field, Nozzle, Point, Refused, Crossed}
 use Rattle.job_state.specs.declared.state.Job.{Job}
 use Rattle.job_state.specs.declared.state.Taken.{Taken}
-use Rattle.job_state.specs.Gathered.{chosen, ring-of}
+use Rattle.job_state.specs.Gathered.{chosen, ring-of, counted}
 
 -- ---- the state. An accepted field whose ring the checks 6 or 8 refuse, which no job hands back, is none.
 abbrev pub view-by : phases.Phase → ℕ → List Corner → State
@@ -90,16 +91,31 @@ module _ (forward-at : ℕ → ℤ → ℤ → rules.Answer points.Point) where
   stepped (accepted r) (record-case.Query X Y) = queried r X Y
   stepped (accepted r) (record-case.Point c B L) = pointed (accepted r) (forward-at c B L)
 
--- a refusal leaves the state as it was, places past the corners too
-abbrev pub Kept : answers.Answer → Job → Job → Type 0
-Kept Silent a b = Unit {0}
-Kept (Field c n k) a b = Unit {0}
-Kept (Nozzle X Y p) a b = Unit {0}
-Kept (Point X Y s c) a b = Unit {0}
-Kept (Refused n) a b = a ≡ b
-Kept (Crossed i j) a b = a ≡ b
+-- ---- the struct itself, its places past the counted corners too
+abbrev pub new-job : Job
+new-job = record { corners = replicate 1024 (record { x = pos 0; y = pos 0 }); count = 0; code = 0; phase = Idle }
 
--- what a record makes of a job: the rules' state and line, or their refusal
-pub record Stepping (s : rules.Answer Step) (j : Job) (t : Taken) : Type 0 where
+-- what a record that is not refused makes of a job: kind 1 drops the old field, kind 2 stores the corner behind the others, kind 3 accepts the field; a query and
+-- a point change nothing
+abbrev pub after-record : records.Record → Job → Job
+after-record (record-case.Begin c) j = record { corners = j .corners; count = 0; code = c; phase = Gathering }
+after-record (record-case.Corner X Y) j = record {
+  corners = set (j .corners) (j .count) (record { x = X; y = Y });
+  count = j .count + 1;
+  code = j .code;
+  phase = j .phase;
+}
+after-record record-case.Close j = record { corners = j .corners; count = counted (j .count); code = j .code; phase = Accepted }
+after-record (record-case.Query X Y) j = j
+after-record (record-case.Point c B L) j = j
+
+-- the job that a record leaves, by what the rules say of it: a refusal leaves the job as it was
+abbrev pub left : rules.Answer Step → records.Record → Job → Job
+left (rules.answered d) i j = after-record i j
+left (refused n) i j = j
+left (crossed-at k l) i j = j
+
+-- what a record makes of a job, by the rules' answer `s` to it: their state and line, or their refusal; and the job that comes back
+pub record Stepping (s : rules.Answer Step) (i : records.Record) (j : Job) (t : Taken) : Type 0 where
   pub says : paper (t .answer) (view (t .job)) ≡ s
-  pub kept : Kept (t .answer) (t .job) j
+  pub leaves : t .job ≡ left s i j

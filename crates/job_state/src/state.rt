@@ -6,7 +6,7 @@ ghost use Rattle.rules.specs.RingAnswers.{number-bad};
 ghost use Rattle.projection.specs.Worked.{worked-forward};
 ghost use Rattle.records.specs.declared.Record.the-variants as record-case;
 ghost use Rattle.job_state.specs.Gathered.{ring-of, counted};
-ghost use Rattle.job_state.specs.States.{Stepping, view, stepped, point-said, query-said};
+ghost use Rattle.job_state.specs.States.{Stepping, new-job, view, stepped, point-said, query-said};
 use crate::ring;
 use crate::ring::Judged;
 use projection::ForwardAnswer;
@@ -54,7 +54,7 @@ pub struct Taken {
 
 impl Job {
     pub fn new() -> Job
-        ensures { λ r. ⌜ r .phase ≡ Phase.Idle ⌝ }
+        ensures { λ r. ⌜ r ≡ new-job ⌝ }
     {
         let corner = Corner { x: 0, y: 0 };
         Job {
@@ -66,7 +66,7 @@ impl Job {
     }
 
     pub fn take(self, item: Record) -> Taken
-        ensures { λ r. ⌜ Stepping (stepped worked-forward (view self) item) self r ⌝ }
+        ensures { λ r. ⌜ Stepping (stepped worked-forward (view self) item) item self r ⌝ }
     {
         match item {
             Record::Begin(code) => self.begin(code),
@@ -88,7 +88,7 @@ impl Job {
 
     // Kind 1: a later one drops the old field.
     fn begin(self, code: u8) -> Taken
-        ensures { λ r. ⌜ Stepping (stepped worked-forward (view self) (record-case.Begin code)) self r ⌝ }
+        ensures { λ r. ⌜ Stepping (stepped worked-forward (view self) (record-case.Begin code)) (record-case.Begin code) self r ⌝ }
     {
         let phase = self.phase;
         match phase {
@@ -99,7 +99,7 @@ impl Job {
     }
 
     fn begin_field(self, code: u8) -> Taken
-        ensures { λ r. ⌜ Stepping (begun code) self r ⌝ }
+        ensures { λ r. ⌜ Stepping (begun code) (record-case.Begin code) self r ⌝ }
     {
         if code < 1 {
             return Taken {
@@ -127,7 +127,7 @@ impl Job {
 
     // Kind 2.
     fn corner(self, x: i64, y: i64) -> Taken
-        ensures { λ r. ⌜ Stepping (stepped worked-forward (view self) (record-case.Corner x y)) self r ⌝ }
+        ensures { λ r. ⌜ Stepping (stepped worked-forward (view self) (record-case.Corner x y)) (record-case.Corner x y) self r ⌝ }
     {
         let phase = self.phase;
         match phase {
@@ -139,7 +139,7 @@ impl Job {
 
     fn gather(self, x: i64, y: i64) -> Taken
         requires { ⌜ self .phase ≡ Phase.Gathering ⌝ }
-        ensures { λ r. ⌜ Stepping (cornered (self .code) (ring-of (self .count) (self .corners)) x y) self r ⌝ }
+        ensures { λ r. ⌜ Stepping (cornered (self .code) (ring-of (self .count) (self .corners)) x y) (record-case.Corner x y) self r ⌝ }
     {
         let count = self.count;
         if 1024 <= count {
@@ -171,7 +171,7 @@ impl Job {
 
     // Kind 3.
     fn close(self) -> Taken
-        ensures { λ r. ⌜ Stepping (stepped worked-forward (view self) record-case.Close) self r ⌝ }
+        ensures { λ r. ⌜ Stepping (stepped worked-forward (view self) record-case.Close) record-case.Close self r ⌝ }
     {
         let phase = self.phase;
         match phase {
@@ -183,7 +183,7 @@ impl Job {
 
     fn accept(self) -> Taken
         requires { ⌜ self .phase ≡ Phase.Gathering ⌝ }
-        ensures { λ r. ⌜ Stepping (closed (self .code) (ring-of (self .count) (self .corners))) self r ⌝ }
+        ensures { λ r. ⌜ Stepping (closed (self .code) (ring-of (self .count) (self .corners))) record-case.Close self r ⌝ }
     {
         let corners = self.corners;
         let code = self.code;
@@ -212,7 +212,7 @@ impl Job {
 
     // Kind 4.
     fn query(self, x: i64, y: i64) -> Taken
-        ensures { λ r. ⌜ Stepping (stepped worked-forward (view self) (record-case.Query x y)) self r ⌝ }
+        ensures { λ r. ⌜ Stepping (stepped worked-forward (view self) (record-case.Query x y)) (record-case.Query x y) self r ⌝ }
     {
         let phase = self.phase;
         match phase {
@@ -224,7 +224,7 @@ impl Job {
 
     fn locate(self, x: i64, y: i64) -> Taken
         requires { ⌜ self .phase ≡ Phase.Accepted ⌝ }
-        ensures { λ r. ⌜ Stepping (stepped worked-forward (view self) (record-case.Query x y)) self r ⌝ }
+        ensures { λ r. ⌜ Stepping (stepped worked-forward (view self) (record-case.Query x y)) (record-case.Query x y) self r ⌝ }
     {
         let corners = self.corners;
         let count = counted(self.count);
@@ -237,7 +237,7 @@ impl Job {
 
     // Kind 5.
     fn point(self, code: u8, b: i64, l: i64) -> Taken
-        ensures { λ r. ⌜ Stepping (stepped worked-forward (view self) (record-case.Point code b l)) self r ⌝ }
+        ensures { λ r. ⌜ Stepping (stepped worked-forward (view self) (record-case.Point code b l)) (record-case.Point code b l) self r ⌝ }
     {
         let phase = self.phase;
         match phase {
@@ -248,7 +248,7 @@ impl Job {
     }
 
     fn project(self, code: u8, b: i64, l: i64) -> Taken
-        ensures { λ r. ⌜ Stepping (pointed (view self) (worked-forward code b l)) self r ⌝ }
+        ensures { λ r. ⌜ Stepping (pointed (view self) (worked-forward code b l)) (record-case.Point code b l) self r ⌝ }
     {
         let projected = projection::forward(code, b, l);
         Taken {

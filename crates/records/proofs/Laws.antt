@@ -23,7 +23,7 @@ use Rattle.records.specs.declared.Record as code
 use Rattle.records.specs.declared.Record.the-variants as case
 use Rattle.records.specs.declared.Read.the-variants.{Whole, Refused, End}
 use Rattle.records.specs.declared.Length.the-variants.{Bytes, Unknown}
-use Rattle.records.specs.Kinds.{Found, here, nowhere, found}
+use Rattle.records.specs.Laws.Kinds.{Found, here, nowhere, found}
 use Rattle.records.specs.Reader.{eight-at, length-by, length-of, body-by, body-of, BodyOf, framed, read-at}
 
 -- ---- two's complement

@@ -1,3 +1,3 @@
--- What the contracts of the record reader cite (Reader), and what a kind byte can mean (Kinds).
+-- What the contracts of the record reader cite (Reader), and what is proved of it (Laws).
 pub mod Reader
-pub mod Kinds
+pub mod Laws

@@ -2,7 +2,7 @@
 use mathlib.Core.Path.{_≡_, _∙_}
 use native.Mathlib.Omega.{arith}
 use lib.ListN.{length, length-set}
-use Rattle.job.proofs.Holding.{few, one-more}
+use Rattle.job.proofs.Holding.{few, one-more, with-is}
 use borrow.Author.Needs.{needs}
 use Rattle.job.proofs.run.Held.with.Statement.{statement}
 use Rattle.job.proofs.run.Held.with.Tie as tie
@@ -23,6 +23,7 @@ returns c =
       let e = c .settled .ensures in omega arith,
       one-more (c .before .args .t1 .count) _ _ (c .before .args .t1 .bytes) l (c .settled .ensures),
       length-set (c .before .args .t1 .bytes) _ _ ∙ l,
+      with-is (c .before .args .t1) _ _ (c .settled .ensures),
     )
 
 pub with-spec : {M : Type 1} → statement M

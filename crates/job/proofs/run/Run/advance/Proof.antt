@@ -27,7 +27,8 @@ same-length c = search needs
 
 returns : tie.Need-returns
 returns c =
-    advances-by _ _ _ (c .before .before .before .before .before .before .before .before .before .take .result .answer) (record { job = c .before .before .before .before .before .before .before .before .before .take .result .job; held = c .before .before .none .result; place = c .before .after .result; stopped = c .refuses .result }) (c .before .before .before .before .before .before .before .before .before .take .ensures .says)
+    let taken = c .before .before .before .before .before .before .before .before .before .take in
+    advances-by (c .before .before .before .before .before .before .before .before .before .before .before .before .before .args .self) _ _ (taken .result .answer) (record { job = taken .result .job; held = c .before .before .none .result; place = c .before .after .result; stopped = c .refuses .result }) (taken .ensures .says) (taken .ensures .leaves)
     (c .before .before .before .before .before .before .before .answer-line .ensures) (c .refuses .ensures) (c .before .after .ensures .0) (c .before .after .ensures .1) (c .before .before .none .ensures) (c .before .before .before .before .before .put .ensures .0) (c .before .before .before .before .before .put .ensures .1)
 
 pub advance-spec : {M : Type 1} → statement M

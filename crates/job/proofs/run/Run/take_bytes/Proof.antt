@@ -3,14 +3,14 @@ use mathlib.Core.Path.{refl}
 use Prim.Native.Nat.{_-_}
 use native.Mathlib.Omega.{arith}
 use lib.ListN.{length, getD}
-use Rattle.job.specs.Runs.{progress, refused-run}
-use Rattle.job.proofs.Looping.{Going, starts, goes-on, stops, full, done, waiting, waits, whole-taken, cut-taken, unknown-taken, cut-waits, never-ends, handed-back, same-long, nothing-written, nothing-counted}
+use Rattle.job.specs.Runs.{waiting, refused-run}
+use Rattle.job.proofs.Looping.{Going, starts, goes-on, stops, full, done, whole-taken, cut-taken, unknown-taken, cut-waits, never-ends, handed-back, same-long, nothing-written, nothing-counted}
 use borrow.Author.Needs.{needs}
 use Rattle.job.proofs.run.Run.take_bytes.Statement.{statement}
 use Rattle.job.proofs.run.Run.take_bytes.Tie as tie
 
 abbrev Inv-loop : tie.InvT-loop
-Inv-loop chunk out₀ run₀ at₀ wrote₀ out run at wrote = Going (progress run₀) chunk out₀ run at wrote out
+Inv-loop chunk out₀ run₀ at₀ wrote₀ out run at wrote = Going run₀ chunk out₀ run at wrote out
 
 abbrev μ-loop : tie.MeasureT-loop
 μ-loop chunk out₀ run₀ at₀ wrote₀ out run at wrote = length chunk - at
@@ -55,21 +55,21 @@ handed-requires-2 c κs = search needs
 
 same-length-2 : tie.Need-same-length-2 Inv-loop μ-loop
 same-length-2 c =
-    same-long (c .before .before .before .before .before .before .before .before .before .before .before .before .before .before .before .before .before .before .before .args .self) (c .before .before .before .before .before .before .before .before .before .before .before .before .before .before .before .before .loop .inv) (c .before .before .before .before .before .before .before .before .before .before .before .before .before .before .before .loop-test .taken) (c .before .before .before .before .before .before .before .before .before .before .before .before .before .before .if1 .left) _ (whole-taken (c .before .before .before .before .before .before .before .before .before .before .before .before .before .before .before .before .loop .run) (getD (c .before .before .before .before .before .before .before .before .before .before .before .before .before .before .before .before .before .before .before .args .chunk .now) (c .before .before .before .before .before .before .before .before .before .before .before .before .before .before .before .before .loop .at) 0) (c .before .before .before .before .before .before .before .before .before .before .before .with .result) (c .before .before .before .before .before .before .before .before .before .before .read .result) (c .before .before .before .before .before .before .before .before .before .before .before .before .before .before .before .before .loop .inv .goes) (c .before .before .before .before .before .before .before .before .before .before .before .with .ensures .1) (c .before .before .before .before .before .before .before .before .before .before .read .ensures) _ _ (c .before .before .before .before .before .before .before .before .found .given .1))
-    (c .before .before .before .before .before .advance .ensures .short) (c .before .before .before .before .before .advance .result .run) (c .before .before .before .before .before .advance .ensures .end) (c .before .before .before .before .before .advance .ensures .holds) (c .before .before .before .before .before .advance .ensures .next)
+    same-long (c .before .before .before .before .before .before .before .before .before .before .before .before .before .before .before .before .before .before .before .args .self) (c .before .before .before .before .before .before .before .before .before .before .before .before .before .before .before .before .loop .inv) (c .before .before .before .before .before .before .before .before .before .before .before .before .before .before .before .loop-test .taken) (c .before .before .before .before .before .before .before .before .before .before .before .before .before .before .if1 .left) (whole-taken (c .before .before .before .before .before .before .before .before .before .before .before .before .before .before .before .before .loop .run) (getD (c .before .before .before .before .before .before .before .before .before .before .before .before .before .before .before .before .before .before .before .args .chunk .now) (c .before .before .before .before .before .before .before .before .before .before .before .before .before .before .before .before .loop .at) 0) (c .before .before .before .before .before .before .before .before .before .before .before .with .result) (c .before .before .before .before .before .before .before .before .before .before .read .result) (c .before .before .before .before .before .before .before .before .before .before .before .before .before .before .before .before .loop .inv .goes) (c .before .before .before .before .before .before .before .before .before .before .before .with .ensures .1) (c .before .before .before .before .before .before .before .before .before .before .before .with .ensures .3) (c .before .before .before .before .before .before .before .before .before .before .read .ensures) _ _ (c .before .before .before .before .before .before .before .before .found .given .1))
+    (c .before .before .before .before .before .advance .ensures .short) (c .before .before .before .before .before .advance .result .run) (c .before .before .before .before .before .advance .ensures .end) (c .before .before .before .before .before .advance .ensures .holds) (c .before .before .before .before .before .advance .ensures .next) (c .before .before .before .before .before .advance .ensures .run-is)
 
 returns-2 : tie.Need-returns-2 Inv-loop μ-loop
 returns-2 c =
-    handed-back (c .handed2 .ensures) (stops (c .before .before .before .before .before .before .before .before .before .before .before .before .before .before .before .before .before .before .before .args .self) (c .before .before .before .before .before .before .before .before .before .before .before .before .before .before .before .before .loop .inv) (c .before .before .before .before .before .before .before .before .before .before .before .before .before .before .before .loop-test .taken) (c .before .before .before .before .before .before .before .before .before .before .before .before .before .before .if1 .left) _ (whole-taken (c .before .before .before .before .before .before .before .before .before .before .before .before .before .before .before .before .loop .run) (getD (c .before .before .before .before .before .before .before .before .before .before .before .before .before .before .before .before .before .before .before .args .chunk .now) (c .before .before .before .before .before .before .before .before .before .before .before .before .before .before .before .before .loop .at) 0) (c .before .before .before .before .before .before .before .before .before .before .before .with .result) (c .before .before .before .before .before .before .before .before .before .before .read .result) (c .before .before .before .before .before .before .before .before .before .before .before .before .before .before .before .before .loop .inv .goes) (c .before .before .before .before .before .before .before .before .before .before .before .with .ensures .1) (c .before .before .before .before .before .before .before .before .before .before .read .ensures) _ _ (c .before .before .before .before .before .before .before .before .found .given .1))
-    (c .before .before .before .before .before .advance .ensures .short) (c .before .before .before .before .before .advance .result .run) (c .before .before .before .before .before .advance .ensures .end) (c .before .before .before .before .before .advance .ensures .holds) (c .before .before .before .before .before .advance .ensures .next) _ (c .before .if2 .taken) refl)
+    handed-back (c .handed2 .ensures) (stops (c .before .before .before .before .before .before .before .before .before .before .before .before .before .before .before .before .before .before .before .args .self) (c .before .before .before .before .before .before .before .before .before .before .before .before .before .before .before .before .loop .inv) (c .before .before .before .before .before .before .before .before .before .before .before .before .before .before .before .loop-test .taken) (c .before .before .before .before .before .before .before .before .before .before .before .before .before .before .if1 .left) (whole-taken (c .before .before .before .before .before .before .before .before .before .before .before .before .before .before .before .before .loop .run) (getD (c .before .before .before .before .before .before .before .before .before .before .before .before .before .before .before .before .before .before .before .args .chunk .now) (c .before .before .before .before .before .before .before .before .before .before .before .before .before .before .before .before .loop .at) 0) (c .before .before .before .before .before .before .before .before .before .before .before .with .result) (c .before .before .before .before .before .before .before .before .before .before .read .result) (c .before .before .before .before .before .before .before .before .before .before .before .before .before .before .before .before .loop .inv .goes) (c .before .before .before .before .before .before .before .before .before .before .before .with .ensures .1) (c .before .before .before .before .before .before .before .before .before .before .before .with .ensures .3) (c .before .before .before .before .before .before .before .before .before .before .read .ensures) _ _ (c .before .before .before .before .before .before .before .before .found .given .1))
+    (c .before .before .before .before .before .advance .ensures .short) (c .before .before .before .before .before .advance .result .run) (c .before .before .before .before .before .advance .ensures .end) (c .before .before .before .before .before .advance .ensures .holds) (c .before .before .before .before .before .advance .ensures .next) (c .before .before .before .before .before .advance .ensures .run-is) _ (c .before .if2 .taken) refl)
 
 loop-less : tie.Need-loop-less Inv-loop μ-loop
 loop-less c = search needs
 
 loop-again : tie.Need-loop-again Inv-loop μ-loop
 loop-again c =
-    goes-on (c .before .before .before .before .before .before .before .before .before .before .before .before .before .before .before .before .before .before .args .self) (c .before .before .before .before .before .before .before .before .before .before .before .before .before .before .before .loop .inv) (c .before .before .before .before .before .before .before .before .before .before .before .before .before .before .loop-test .taken) (c .before .before .before .before .before .before .before .before .before .before .before .before .before .if1 .left) _ (whole-taken (c .before .before .before .before .before .before .before .before .before .before .before .before .before .before .before .loop .run) (getD (c .before .before .before .before .before .before .before .before .before .before .before .before .before .before .before .before .before .before .args .chunk .now) (c .before .before .before .before .before .before .before .before .before .before .before .before .before .before .before .loop .at) 0) (c .before .before .before .before .before .before .before .before .before .before .with .result) (c .before .before .before .before .before .before .before .before .before .read .result) (c .before .before .before .before .before .before .before .before .before .before .before .before .before .before .before .loop .inv .goes) (c .before .before .before .before .before .before .before .before .before .before .with .ensures .1) (c .before .before .before .before .before .before .before .before .before .read .ensures) _ _ (c .before .before .before .before .before .before .before .found .given .1))
-    (c .before .before .before .before .advance .ensures .short) (c .before .before .before .before .advance .result .run) (c .before .before .before .before .advance .ensures .end) (c .before .before .before .before .advance .ensures .holds) (c .before .before .before .before .advance .ensures .next) (c .if2 .left)
+    goes-on (c .before .before .before .before .before .before .before .before .before .before .before .before .before .before .before .before .before .before .args .self) (c .before .before .before .before .before .before .before .before .before .before .before .before .before .before .before .loop .inv) (c .before .before .before .before .before .before .before .before .before .before .before .before .before .before .loop-test .taken) (c .before .before .before .before .before .before .before .before .before .before .before .before .before .if1 .left) (whole-taken (c .before .before .before .before .before .before .before .before .before .before .before .before .before .before .before .loop .run) (getD (c .before .before .before .before .before .before .before .before .before .before .before .before .before .before .before .before .before .before .args .chunk .now) (c .before .before .before .before .before .before .before .before .before .before .before .before .before .before .before .loop .at) 0) (c .before .before .before .before .before .before .before .before .before .before .with .result) (c .before .before .before .before .before .before .before .before .before .read .result) (c .before .before .before .before .before .before .before .before .before .before .before .before .before .before .before .loop .inv .goes) (c .before .before .before .before .before .before .before .before .before .before .with .ensures .1) (c .before .before .before .before .before .before .before .before .before .before .with .ensures .3) (c .before .before .before .before .before .before .before .before .before .read .ensures) _ _ (c .before .before .before .before .before .before .before .found .given .1))
+    (c .before .before .before .before .advance .ensures .short) (c .before .before .before .before .advance .result .run) (c .before .before .before .before .advance .ensures .end) (c .before .before .before .before .advance .ensures .holds) (c .before .before .before .before .advance .ensures .next) (c .before .before .before .before .advance .ensures .run-is) (c .if2 .left)
 
 enum-known-found-2 : tie.Need-enum-known-found-2 Inv-loop μ-loop
 enum-known-found-2 c = search needs
@@ -79,10 +79,10 @@ loop-less-2 c = search needs
 
 loop-again-2 : tie.Need-loop-again-2 Inv-loop μ-loop
 loop-again-2 c =
-    goes-on (c .before .before .before .before .before .before .before .before .before .before .before .before .before .args .self) (c .before .before .before .before .before .before .before .before .before .before .loop .inv) (c .before .before .before .before .before .before .before .before .before .loop-test .taken) (c .before .before .before .before .before .before .before .before .if1 .left) (waits (c .before .before .before .before .before .before .before .before .before .before .loop .run) (c .before .before .before .before .before .with .result))
-    (cut-taken (c .before .before .before .before .before .before .before .before .before .before .loop .run) (getD (c .before .before .before .before .before .before .before .before .before .before .before .before .before .args .chunk .now) (c .before .before .before .before .before .before .before .before .before .before .loop .at) 0) (c .before .before .before .before .before .with .result) (c .before .before .before .before .read .result) (c .before .before .before .before .before .before .before .before .before .before .loop .inv .goes) (c .before .before .before .before .before .with .ensures .1) (c .before .before .before .before .read .ensures) _ _ (c .before .before .found2 .given .1) (c .if3 .taken))
+    goes-on (c .before .before .before .before .before .before .before .before .before .before .before .before .before .args .self) (c .before .before .before .before .before .before .before .before .before .before .loop .inv) (c .before .before .before .before .before .before .before .before .before .loop-test .taken) (c .before .before .before .before .before .before .before .before .if1 .left)
+    (cut-taken (c .before .before .before .before .before .before .before .before .before .before .loop .run) (getD (c .before .before .before .before .before .before .before .before .before .before .before .before .before .args .chunk .now) (c .before .before .before .before .before .before .before .before .before .before .loop .at) 0) (c .before .before .before .before .before .with .result) (c .before .before .before .before .read .result) (c .before .before .before .before .before .before .before .before .before .before .loop .inv .goes) (c .before .before .before .before .before .with .ensures .1) (c .before .before .before .before .before .with .ensures .3) (c .before .before .before .before .read .ensures) _ _ (c .before .before .found2 .given .1) (c .if3 .taken))
     (omega arith) (waiting (c .before .before .before .before .before .before .before .before .before .before .loop .run) (c .before .before .before .before .before .with .result)) (nothing-counted (c .before .before .before .before .before .before .before .before .before .before .loop .wrote)) (nothing-written (c .before .before .before .before .before .before .before .before .before .before .loop .out) (c .before .before .before .before .before .before .before .before .before .before .loop .wrote))
-    (cut-waits (c .before .before .before .before .before .before .before .before .before .before .loop .run) (getD (c .before .before .before .before .before .before .before .before .before .before .before .before .before .args .chunk .now) (c .before .before .before .before .before .before .before .before .before .before .loop .at) 0) (c .before .before .before .before .before .with .result) (c .before .before .before .before .read .result) (c .before .before .before .before .before .before .before .before .before .before .loop .inv .goes) (c .before .before .before .before .before .with .ensures .1) (c .before .before .before .before .read .ensures) _ _ (c .before .before .before .before .before .with .ensures .2) (c .before .before .before .before .before .with .ensures .0) (c .before .before .found2 .given .1) (c .if3 .taken)) (c .before .before .before .before .before .before .before .before .before .before .loop .inv .goes)
+    (cut-waits (c .before .before .before .before .before .before .before .before .before .before .loop .run) (getD (c .before .before .before .before .before .before .before .before .before .before .before .before .before .args .chunk .now) (c .before .before .before .before .before .before .before .before .before .before .loop .at) 0) (c .before .before .before .before .before .with .result) (c .before .before .before .before .read .result) (c .before .before .before .before .before .before .before .before .before .before .loop .inv .goes) (c .before .before .before .before .before .with .ensures .1) (c .before .before .before .before .before .with .ensures .3) (c .before .before .before .before .read .ensures) _ _ (c .before .before .before .before .before .with .ensures .2) (c .before .before .before .before .before .with .ensures .0) (c .before .before .found2 .given .1) (c .if3 .taken)) refl (c .before .before .before .before .before .before .before .before .before .before .loop .inv .goes)
 
 refuse-requires : tie.Need-refuse-requires Inv-loop μ-loop
 refuse-requires c κs =
@@ -90,13 +90,13 @@ refuse-requires c κs =
 
 same-length-3 : tie.Need-same-length-3 Inv-loop μ-loop
 same-length-3 c =
-    same-long (c .before .before .before .before .before .before .before .before .before .before .before .before .before .before .before .before .before .args .self) (c .before .before .before .before .before .before .before .before .before .before .before .before .before .before .loop .inv) (c .before .before .before .before .before .before .before .before .before .before .before .before .before .loop-test .taken) (c .before .before .before .before .before .before .before .before .before .before .before .before .if1 .left) _ (unknown-taken (c .before .before .before .before .before .before .before .before .before .before .before .before .before .before .loop .run) (getD (c .before .before .before .before .before .before .before .before .before .before .before .before .before .before .before .before .before .args .chunk .now) (c .before .before .before .before .before .before .before .before .before .before .before .before .before .before .loop .at) 0) (c .before .before .before .before .before .before .before .before .before .with .result) (c .before .before .before .before .before .before .before .before .read .result) (c .before .before .before .before .before .before .before .before .before .before .before .before .before .before .loop .inv .goes) (c .before .before .before .before .before .before .before .before .before .with .ensures .1) (c .before .before .before .before .before .before .before .before .read .ensures) _ _ (c .before .before .before .before .before .before .found2 .given .1) (c .before .before .before .before .if3 .left))
-    (c .before .before .refuse .ensures .short) (refused-run (c .before .before .before .before .before .before .before .before .before .before .before .before .before .before .loop .run)) refl (c .before .before .refuse .ensures .holds) refl
+    same-long (c .before .before .before .before .before .before .before .before .before .before .before .before .before .before .before .before .before .args .self) (c .before .before .before .before .before .before .before .before .before .before .before .before .before .before .loop .inv) (c .before .before .before .before .before .before .before .before .before .before .before .before .before .loop-test .taken) (c .before .before .before .before .before .before .before .before .before .before .before .before .if1 .left) (unknown-taken (c .before .before .before .before .before .before .before .before .before .before .before .before .before .before .loop .run) (getD (c .before .before .before .before .before .before .before .before .before .before .before .before .before .before .before .before .before .args .chunk .now) (c .before .before .before .before .before .before .before .before .before .before .before .before .before .before .loop .at) 0) (c .before .before .before .before .before .before .before .before .before .with .result) (c .before .before .before .before .before .before .before .before .read .result) (c .before .before .before .before .before .before .before .before .before .before .before .before .before .before .loop .inv .goes) (c .before .before .before .before .before .before .before .before .before .with .ensures .1) (c .before .before .before .before .before .before .before .before .before .with .ensures .3) (c .before .before .before .before .before .before .before .before .read .ensures) _ _ (c .before .before .before .before .before .before .found2 .given .1) (c .before .before .before .before .if3 .left))
+    (c .before .before .refuse .ensures .short) (refused-run (c .before .before .before .before .before .before .before .before .before .before .before .before .before .before .loop .run)) refl (c .before .before .refuse .ensures .holds) refl refl
 
 returns-3 : tie.Need-returns-3 Inv-loop μ-loop
 returns-3 c =
-    handed-back (c .before .before .refuse .ensures .handed) (stops (c .before .before .before .before .before .before .before .before .before .before .before .before .before .before .before .before .before .args .self) (c .before .before .before .before .before .before .before .before .before .before .before .before .before .before .loop .inv) (c .before .before .before .before .before .before .before .before .before .before .before .before .before .loop-test .taken) (c .before .before .before .before .before .before .before .before .before .before .before .before .if1 .left) _ (unknown-taken (c .before .before .before .before .before .before .before .before .before .before .before .before .before .before .loop .run) (getD (c .before .before .before .before .before .before .before .before .before .before .before .before .before .before .before .before .before .args .chunk .now) (c .before .before .before .before .before .before .before .before .before .before .before .before .before .before .loop .at) 0) (c .before .before .before .before .before .before .before .before .before .with .result) (c .before .before .before .before .before .before .before .before .read .result) (c .before .before .before .before .before .before .before .before .before .before .before .before .before .before .loop .inv .goes) (c .before .before .before .before .before .before .before .before .before .with .ensures .1) (c .before .before .before .before .before .before .before .before .read .ensures) _ _ (c .before .before .before .before .before .before .found2 .given .1) (c .before .before .before .before .if3 .left))
-    (c .before .before .refuse .ensures .short) (refused-run (c .before .before .before .before .before .before .before .before .before .before .before .before .before .before .loop .run)) refl (c .before .before .refuse .ensures .holds) refl _ refl refl)
+    handed-back (c .before .before .refuse .ensures .handed) (stops (c .before .before .before .before .before .before .before .before .before .before .before .before .before .before .before .before .before .args .self) (c .before .before .before .before .before .before .before .before .before .before .before .before .before .before .loop .inv) (c .before .before .before .before .before .before .before .before .before .before .before .before .before .loop-test .taken) (c .before .before .before .before .before .before .before .before .before .before .before .before .if1 .left) (unknown-taken (c .before .before .before .before .before .before .before .before .before .before .before .before .before .before .loop .run) (getD (c .before .before .before .before .before .before .before .before .before .before .before .before .before .before .before .before .before .args .chunk .now) (c .before .before .before .before .before .before .before .before .before .before .before .before .before .before .loop .at) 0) (c .before .before .before .before .before .before .before .before .before .with .result) (c .before .before .before .before .before .before .before .before .read .result) (c .before .before .before .before .before .before .before .before .before .before .before .before .before .before .loop .inv .goes) (c .before .before .before .before .before .before .before .before .before .with .ensures .1) (c .before .before .before .before .before .before .before .before .before .with .ensures .3) (c .before .before .before .before .before .before .before .before .read .ensures) _ _ (c .before .before .before .before .before .before .found2 .given .1) (c .before .before .before .before .if3 .left))
+    (c .before .before .refuse .ensures .short) (refused-run (c .before .before .before .before .before .before .before .before .before .before .before .before .before .before .loop .run)) refl (c .before .before .refuse .ensures .holds) refl refl _ refl refl)
 
 enum-told : tie.Need-enum-told Inv-loop μ-loop
 enum-told c = search needs
@@ -106,7 +106,7 @@ loop-less-3 c = search needs
 
 loop-again-3 : tie.Need-loop-again-3 Inv-loop μ-loop
 loop-again-3 c =
-    absurd (never-ends (c .before .before .before .before .before .before .before .before .loop .run) (getD (c .before .before .before .before .before .before .before .before .before .before .before .args .chunk .now) (c .before .before .before .before .before .before .before .before .loop .at) 0) (c .before .before .before .with .result) (c .before .before .read .result) (c .before .before .before .before .before .before .before .before .loop .inv .goes) (c .before .before .before .with .ensures .1) (c .before .before .read .ensures) (c .enum-told .given .1))
+    absurd (never-ends (c .before .before .before .before .before .before .before .before .loop .run) (getD (c .before .before .before .before .before .before .before .before .before .before .before .args .chunk .now) (c .before .before .before .before .before .before .before .before .loop .at) 0) (c .before .before .before .with .result) (c .before .before .read .result) (c .before .before .before .before .before .before .before .before .loop .inv .goes) (c .before .before .before .with .ensures .1) (c .before .before .before .with .ensures .3) (c .before .before .read .ensures) (c .enum-told .given .1))
 
 handed-requires-3 : tie.Need-handed-requires-3 Inv-loop μ-loop
 handed-requires-3 c κs = search needs

@@ -1,6 +1,7 @@
 -- `job_state::state::Job::corner` meets its contract. Assumes nothing.
 use Rattle.projection.specs.Worked.{worked-forward}
 use Rattle.rules.specs.JobFile.{cornered}
+use Rattle.records.specs.declared.Record.the-variants as record-case
 use Rattle.job_state.proofs.Steps.{stepping-at, refusing, read-two, idle-corner, gathering-corner, accepted-corner}
 use borrow.Author.Needs.{needs}
 use Rattle.job_state.proofs.state.Job.corner.Statement.{statement}
@@ -30,7 +31,7 @@ returns c =
 
 returns-2 : tie.Need-returns-2
 returns-2 c =
-    stepping-at (gathering-corner worked-forward _ _ _ (c .before .enum-told2 .given .1)) (read-two (cornered _ _) _ _ (c .before .before .before .fits .x) (c .before .before .before .fits .y) (c .gather .ensures))
+    stepping-at (gathering-corner worked-forward _ _ _ (c .before .enum-told2 .given .1)) (read-two (cornered _ _) record-case.Corner _ _ (c .before .before .before .fits .x) (c .before .before .before .fits .y) (c .gather .ensures))
 
 returns-3 : tie.Need-returns-3
 returns-3 c =

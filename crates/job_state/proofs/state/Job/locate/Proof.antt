@@ -26,7 +26,7 @@ nozzle-answer-requires c κs = search needs
 returns : tie.Need-returns
 returns c =
     let s = c .before .before .before .before .args .self in
-    read-two (λ X Y. stepped worked-forward (view s) (Query X Y)) _ _ (c .before .before .before .before .fits .x) (c .before .before .before .before .fits .y)
+    read-two (λ X Y. stepped worked-forward (view s) (Query X Y)) Query _ _ (c .before .before .before .before .fits .x) (c .before .before .before .before .fits .y)
     (accepted-query worked-forward s (toZ w64 (ofZ w64 (c .before .before .before .before .args .x))) (toZ w64 (ofZ w64 (c .before .before .before .before .args .y))) (c .before .locate .result) _ (c .before .before .counted .result) (c .before .before .before .before .pre)
     (unmapped _ (s .corners) (c .before .before .before .before .good .0 .1 .1 .0 .1 .0 .1)) (c .before .before .counted .ensures) (c .before .locate .ensures) (c .nozzle-answer .ensures))
 

@@ -1,6 +1,7 @@
 -- `job_state::state::Job::point` meets its contract. Assumes nothing.
 use Rattle.projection.specs.Worked.{worked-forward}
 use Rattle.rules.specs.JobFile.{pointed}
+use Rattle.records.specs.declared.Record.the-variants as record-case
 use Rattle.job_state.specs.States.{view}
 use Rattle.job_state.proofs.Steps.{stepping-at, refusing, read-two, idle-point, gathering-point, accepted-point}
 use borrow.Author.Needs.{needs}
@@ -28,7 +29,7 @@ project-requires-2 c κs = search needs
 returns : tie.Need-returns
 returns c =
     stepping-at (idle-point worked-forward _ _ _ _ (c .before .enum-told .given .1))
-    (read-two (λ B L. pointed (view (c .before .before .before .args .self)) (worked-forward (c .before .before .before .args .code) B L)) _ _ (c .before .before .before .fits .b) (c .before .before .before .fits .l) (c .project .ensures))
+    (read-two (λ B L. pointed (view (c .before .before .before .args .self)) (worked-forward (c .before .before .before .args .code) B L)) (λ B L. record-case.Point (c .before .before .before .args .code) B L) _ _ (c .before .before .before .fits .b) (c .before .before .before .fits .l) (c .project .ensures))
 
 returns-2 : tie.Need-returns-2
 returns-2 c =
@@ -37,7 +38,7 @@ returns-2 c =
 returns-3 : tie.Need-returns-3
 returns-3 c =
     stepping-at (accepted-point worked-forward _ _ _ _ (c .before .enum-told3 .given .1))
-    (read-two (λ B L. pointed (view (c .before .before .before .args .self)) (worked-forward (c .before .before .before .args .code) B L)) _ _ (c .before .before .before .fits .b) (c .before .before .before .fits .l) (c .project2 .ensures))
+    (read-two (λ B L. pointed (view (c .before .before .before .args .self)) (worked-forward (c .before .before .before .args .code) B L)) (λ B L. record-case.Point (c .before .before .before .args .code) B L) _ _ (c .before .before .before .fits .b) (c .before .before .before .fits .l) (c .project2 .ensures))
 
 pub point-spec : {M : Type 1} → statement M
 point-spec =

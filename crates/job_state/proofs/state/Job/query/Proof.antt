@@ -35,7 +35,7 @@ returns-2 c =
 
 returns-3 : tie.Need-returns-3
 returns-3 c =
-    read-two (λ X Y. stepped worked-forward (view (c .before .before .before .args .self)) (Query X Y)) _ _ (c .before .before .before .fits .x) (c .before .before .before .fits .y) (c .locate .ensures)
+    read-two (λ X Y. stepped worked-forward (view (c .before .before .before .args .self)) (Query X Y)) Query _ _ (c .before .before .before .fits .x) (c .before .before .before .fits .y) (c .locate .ensures)
 
 pub query-spec : {M : Type 1} → statement M
 query-spec =

@@ -43,7 +43,7 @@ returns c = of-item worked-forward (view (c .before .before .before .before .arg
 returns-2 : tie.Need-returns-2
 returns-2 c =
     of-item worked-forward (view (c .before .before .before .before .args .self)) (c .before .before .item2 .given .1)
-    (read-two (λ X Y. stepped worked-forward (view (c .before .before .before .before .args .self)) (Corner X Y)) _ _ (record { sfits = c .before .known-told2 .given .0 .1 }) (record { sfits = c .before .known-told2 .given .1 .0 .1 }) (c .corner .ensures))
+    (read-two (λ X Y. stepped worked-forward (view (c .before .before .before .before .args .self)) (Corner X Y)) Corner _ _ (record { sfits = c .before .known-told2 .given .0 .1 }) (record { sfits = c .before .known-told2 .given .1 .0 .1 }) (c .corner .ensures))
 
 returns-3 : tie.Need-returns-3
 returns-3 c = of-item worked-forward (view (c .before .before .before .args .self)) (c .before .enum-told .given .1) (c .close .ensures)
@@ -51,12 +51,12 @@ returns-3 c = of-item worked-forward (view (c .before .before .before .args .sel
 returns-4 : tie.Need-returns-4
 returns-4 c =
     of-item worked-forward (view (c .before .before .before .before .args .self)) (c .before .before .item3 .given .1)
-    (read-two (λ X Y. stepped worked-forward (view (c .before .before .before .before .args .self)) (Query X Y)) _ _ (record { sfits = c .before .known-told3 .given .0 .1 }) (record { sfits = c .before .known-told3 .given .1 .0 .1 }) (c .query .ensures))
+    (read-two (λ X Y. stepped worked-forward (view (c .before .before .before .before .args .self)) (Query X Y)) Query _ _ (record { sfits = c .before .known-told3 .given .0 .1 }) (record { sfits = c .before .known-told3 .given .1 .0 .1 }) (c .query .ensures))
 
 returns-5 : tie.Need-returns-5
 returns-5 c =
     of-item worked-forward (view (c .before .before .before .before .args .self)) (c .before .before .item4 .given .1)
-    (read-two (λ B L. stepped worked-forward (view (c .before .before .before .before .args .self)) (Point (c .before .before .item4 .given .0 .0) B L)) _ _ (record { sfits = c .before .known-told4 .given .1 .0 .1 }) (record { sfits = c .before .known-told4 .given .1 .1 .0 .1 }) (c .point .ensures))
+    (read-two (λ B L. stepped worked-forward (view (c .before .before .before .before .args .self)) (Point (c .before .before .item4 .given .0 .0) B L)) (λ B L. Point (c .before .before .item4 .given .0 .0) B L) _ _ (record { sfits = c .before .known-told4 .given .1 .0 .1 }) (record { sfits = c .before .known-told4 .given .1 .1 .0 .1 }) (c .point .ensures))
 
 pub take-spec : {M : Type 1} → statement M
 take-spec =

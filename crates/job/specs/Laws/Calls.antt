@@ -1,4 +1,4 @@
--- The calls themselves: over any calls of `feed`, one after another, each on any chunk and any buffer, and a `finish` at the end, what is written is exactly the
+-- The calls themselves (`Calls` of Runs): over any calls of `feed`, one after another, each on any chunk and any buffer, and a `finish` at the end, what is written is exactly the
 -- rules' job of the bytes that were taken. Assumes nothing.
 use mathlib.Core.Path.{_≡_, refl, sym, ap, _∙_}
 use mathlib.Core.Bool.{Bool}
@@ -11,18 +11,12 @@ use Rattle.rules.specs.JobFile.{job-by}
 use Rattle.lines.specs.Said.{pasted}
 use Rattle.projection.specs.Worked.{worked-forward}
 use Rattle.job.specs.declared.run.Run.{Run}
-use Rattle.job.specs.declared.run.Fed.{Fed}
 use Rattle.job_state.specs.Gathered.{chosen}
-use Rattle.job.specs.Machine.{Progress, fed, finished}
-use Rattle.job.specs.Laws.{then-next, then-printed}
-use Rattle.job.specs.Runs.{progress, Feeding, last-text, Finishing}
-use Rattle.job.specs.Whole.{start, whole-file}
-
--- from one run to another: the bytes that were taken, and the bytes that were written
-pub data Calls : Run → List ℕ → List ℕ → Run → Type 0 where
-  none : {r : Run} → Calls r [] [] r
-  then : {r s : Run} {bytes written chunk out out′ : List ℕ} (fed : Fed) → Calls r bytes written s → Feeding s chunk out fed out′
-      → Calls r (bytes ++ take (fed .used) chunk) (written ++ take (fed .wrote) out′) (fed .run)
+use Rattle.job.specs.Machine.{Progress, start, fed, finished}
+use Rattle.job.specs.Laws.Bytes.{then-next, then-printed}
+use Rattle.job.specs.Runs.{progress, new-run, run-fed, last-text, Finishing, Calls, none, then}
+use Rattle.job.specs.Laws.Structs.{run-then}
+use Rattle.job.specs.Laws.Whole.{whole-file}
 
 -- what stands at the front of a buffer after a text was laid over it
 front : (t out : List ℕ) {n : ℕ} {out′ : List ℕ} → n ≡ length t → out′ ≡ pasted 0 t out → take n out′ ≡ t
@@ -53,3 +47,14 @@ all-calls {r} {s} {bytes} {written} {out} {out′} {n} new calls f room h =
     ∙ ap (λ (l : List ℕ). l ++ finished (fed worked-forward (progress r) bytes .next)) (wrote calls)
     ∙ ap (λ (p : Progress). fed worked-forward p bytes .printed ++ finished (fed worked-forward p bytes .next)) new
     ∙ whole-file worked-forward bytes h
+
+-- what `Run::new` hands back has come nowhere yet
+pub new-starts : progress new-run ≡ start
+new-starts = refl
+
+-- the run's struct after any calls, every place of it
+pub struct-after : {r s : Run} {bytes written : List ℕ} → Calls r bytes written s → s ≡ run-fed r bytes
+unfolding run-fed
+struct-after none = refl
+struct-after {r} (then {bytes = bytes} {chunk = chunk} d calls f) =
+    f .run-is ∙ ap (λ (t : Run). run-fed t (take (d .used) chunk)) (struct-after calls) ∙ sym (run-then r bytes (take (d .used) chunk))

@@ -18,15 +18,12 @@ use Rattle.rules.specs.JobFile.{Kind, begin-field, corner, close-ring, nozzle-q
 use Rattle.rules.specs.Laws.Job.{after, from, job-from, from-end, from-record}
 use Rattle.records.specs.declared.Read as reader
 use Rattle.records.specs.declared.Read.the-variants.{Whole, Refused}
-use Rattle.records.specs.Kinds.{Found, here, nowhere, found}
+use Rattle.records.specs.Laws.Kinds.{Found, here, nowhere, found}
 use Rattle.records.specs.Reader.{parsed, framed, read-at}
 use Rattle.job_state.specs.States.{stepped}
-use Rattle.job.specs.Machine.{Progress, running, stopped, advanced, considered, byte-taken, fed, finished, over}
+use Rattle.job.specs.Machine.{Progress, running, stopped, start, joined, advanced, considered, byte-taken, fed, finished, over}
 use Rattle.job_lines.specs.Printed.{refusal-text, crossed-text}
-use Rattle.job.specs.Laws.{joined, stopped-next, stopped-printed, over-next, over-printed}
-
-abbrev pub start : Progress
-start = running no-field 0 0 []
+use Rattle.job.specs.Laws.Bytes.{stopped-next, stopped-printed, over-next, over-printed}
 
 module _ (f : ℕ → ℤ → ℤ → rules.Answer points.Point) where
   -- the rules' step is that of the record that was read

@@ -1,0 +1,4 @@
+-- What is proved of the definitions; not needed to read them.
+-- Lines: a line tells the answer that printed it. Alike: jobs that stand for one state answer alike, and a job and a record allow one result.
+pub mod Lines
+pub mod Alike
