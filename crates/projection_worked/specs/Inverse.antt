@@ -87,13 +87,17 @@ worked-known code s X Y e = ap (λ a. (a >>= λ s. plane-outside if plane-bad s 
     go false true = refl
     go false false = refl
 
+-- how far the box of refusal 4 reaches to a side, in kilometres
+abbrev pub side-km : ℕ
+side-km = 420
+
 -- the box of refusal 4, of a point n millimetres north of the offset and m millimetres to a side of it: a millionth of m0 is a millimetre in a km
 pub record Boxed (M n m : ℕ) : Type 0 where
   pub scale-low : 999_000 ≤ M
   pub scale-high : M ≤ 1_000_000
   pub low : 5300 * M ≤ n
   pub high : n ≤ 6250 * M
-  pub side : m ≤ 420 * M
+  pub side : m ≤ side-km * M
 
 -- what the code knows of a point that passed refusal 4
 pub record InBox (zone : Zone) (x y : ℤ) : Type 0 where

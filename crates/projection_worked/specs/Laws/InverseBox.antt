@@ -20,7 +20,7 @@ use Rattle.rules.specs.Laws.Meeting.{T-and}
 use Rattle.systems.specs.Zones.{Stands, Sized}
 use Rattle.systems.specs.declared.Zone.{Zone}
 use Rattle.projection_worked.specs.Worked.{millionths-of}
-use Rattle.projection_worked.specs.Inverse.{Boxed}
+use Rattle.projection_worked.specs.Inverse.{side-km, Boxed}
 
 -- m0 is M millionths, between 0.999 and 1
 pub record Millionths (s : System) (M : ℕ) : Type 0 where
@@ -105,7 +105,7 @@ module _ (s : System) (M : ℕ) (m : Millionths s M) (X Y : ℤ) (p : plane-bad 
     scale-high = m .high;
     low = leb→le _ _ (subst (λ z. pos (5300 * M) ≤ℤ z) (sym north-is) north-low .le);
     high = at-most (natAbs (X -ℤ offset-X s)) (6250 * M) (leb→le _ _ (subst₂ (λ a b. (a *ℤ one) ≤ℤ b) (sym north-is) (limit 6250) (plane-exact s X Y .0 p .1) .le));
-    side = at-most (natAbs (Y -ℤ offset-Y s)) (420 * M) (le-trans (le-of-eq (sym (abs-mul (Y -ℤ offset-Y s) one))) (leb→le _ _ (subst (λ b. pos (natAbs ((Y -ℤ offset-Y s) *ℤ one)) ≤ℤ b) (limit 420) (plane-exact s X Y .0 p .2) .le)));
+    side = at-most (natAbs (Y -ℤ offset-Y s)) (side-km * M) (le-trans (le-of-eq (sym (abs-mul (Y -ℤ offset-Y s) one))) (leb→le _ _ (subst (λ b. pos (natAbs ((Y -ℤ offset-Y s) *ℤ one)) ≤ℤ b) (limit side-km) (plane-exact s X Y .0 p .2) .le)));
   }
     where
       at-most : (a b : ℕ) → a * unit ≤ b * unit → a ≤ b

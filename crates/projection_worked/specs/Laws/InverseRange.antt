@@ -21,7 +21,7 @@ use Rattle.double.specs.Exact.{weight, doubles}
 use Rattle.double.specs.Bound.{Light, LightTable, Inside, reach}
 use Rattle.double.specs.Laws.Systems.{inverse-light}
 use Rattle.fixed_inverse.specs.Laws.Radius.{x-low, x-high, y-high}
-use Rattle.projection_worked.specs.Inverse.{centre30, centred30, mercator-pair, Boxed}
+use Rattle.projection_worked.specs.Inverse.{centre30, centred30, mercator-pair, side-km, Boxed}
 use Rattle.projection_worked.specs.Laws.Size.{Tame, tame}
 use Rattle.projection_worked.specs.Laws.Plane.{arguments-inside}
 use Rattle.projection_worked.specs.Laws.InverseUndone.{Lengths, lengths, centred-small, to-limit}
@@ -72,7 +72,7 @@ unfolding slope centre30
 high-end GRS-80 = lit≤ tt
 high-end Krasovsky = lit≤ tt
 
-side-end : (E : Ellipsoid) → slope E * (420000 * 2 ^ 30) ≤ 420748 * (unit * per-one)
+side-end : (E : Ellipsoid) → slope E * (side-km * 1000 * 2 ^ 30) ≤ 420748 * (unit * per-one)
 unfolding slope
 side-end GRS-80 = lit≤ tt
 side-end Krasovsky = lit≤ tt

@@ -17,7 +17,7 @@ use Rattle.rules.specs.Scaled.{unit, one, quotient}
 use Rattle.fixed.specs.Nearness.{NearAt, turned}
 use Rattle.fixed.specs.Laws.Turned.{below-zero, turned-size}
 use Rattle.fixed.specs.Laws.Bounds.{w-same}
-use Rattle.projection_worked.specs.Inverse.{undone30, centre30, centred30, Boxed}
+use Rattle.projection_worked.specs.Inverse.{undone30, centre30, centred30, side-km, Boxed}
 use Rattle.projection_worked.specs.Laws.Argument.{limit30}
 
 -- a length near the definition's, from its distance in units of 2^-30 m
@@ -104,12 +104,12 @@ undone-high M n k h l = le-of-mul-le-mul-right {k = M} (le-trans (div-mul-le-sel
 pub record Lengths (g f : ℕ) : Type 0 where
   pub low : 5300000 * 2 ^ 30 ≤ g
   pub high : g ≤ 6250000 * 2 ^ 30
-  pub side : f ≤ 420000 * 2 ^ 30
+  pub side : f ≤ side-km * 1000 * 2 ^ 30
 
 pub lengths : {M n m : ℕ} → Boxed M n m → Lengths (undone30 M n) (undone30 M m)
 lengths {M} {n} {m} b =
     let h : 0 < M = above (b .scale-low) in
-    record { low = undone-low M n 5300 h (b .low); high = undone-high M n 6250 h (b .high); side = undone-high M m 420 h (b .side) }
+    record { low = undone-low M n 5300 h (b .low); high = undone-high M n 6250 h (b .high); side = undone-high M m side-km h (b .side) }
   where
     above : {M : ℕ} → 999000 ≤ M → 0 < M
     above h = omega arith
