@@ -12,14 +12,15 @@ use Rattle.rules.specs.Units.{_°_′_″}
 use Rattle.rules.specs.Systems.{Ellipsoid, GRS-80, Krasovsky, constants}
 use Rattle.rules.specs.Scaled.{unit, one, product, quotient, sqrt, radians, sine, cosine}
 use Rattle.rules.specs.Projection.{K-of, sphere, N-of, sphere-scale, mercator-scale}
-use Rattle.fixed.specs.Worked.{S60, mul60, quot60}
-use Rattle.fixed.specs.Nearness.{Fixed, Ratio, turned}
+use Rattle.rules.specs.Computing.{computing}
+use Rattle.fixed.specs.Worked.{S60, mul60, quot60, ser60}
+use Rattle.fixed.specs.Nearness.{Near60, Fixed, Ratio, turned}
 use Rattle.fixed.specs.Laws.Bounds.{w-div, w-same, w-up}
 use Rattle.fixed.specs.Laws.Products.{near-most, fix-shift, fix-const, fix-mul, fix-le, product-rest, off-at}
 use Rattle.fixed.specs.Laws.Quotients.{near-least, ratio-div, ratio-high, fix-twice, fix-mul-double, fix-quot-double}
 use Rattle.fixed.specs.Laws.Turned.{fix-square-turned, within-turned}
 use Rattle.fixed.specs.Laws.Numbers.{numbers}
-use Rattle.fixed_bands.specs.Worked.{latitude-sine, K60}
+use Rattle.fixed_bands.specs.Worked.{part30, rise-at, rising, latitude-sine, K60}
 use Rattle.fixed_bands.specs.Bands.{Latitude, latitude-sine-near, latitude-cosine-near, longitude-sine-near}
 use Rattle.fixed_forward.specs.Sphere.{denominator}
 use Rattle.fixed_forward.specs.Mercator.{K-of-near, denominator-of, denominator-of-near, doubled-of-near, across-of, across-of-near, sphere-at}
@@ -111,10 +112,20 @@ meridian-at E t = sqrt (one -ℤ product (product (constants E .e) (constants E 
 unfoldable pub spread-at : ℤ → ℤ → ℤ
 spread-at f z = sqrt (one -ℤ product (product f f) (product z z))
 
-pub meridian-near : {t : ℕ} (E : Ellipsoid) (y : ℤ) → Fixed t y (16 * unit) (70 * S60 / 100) (87 * S60 / 100) → Fixed (meridian60 (square60 E) t) (meridian-at E y) (213000 * unit) (994 * S60 / 1000) S60
+-- how near √(1 - e²t²) is shown to be, in units of 2^-60; at 56° it is more than 65,200 of them off
+abbrev pub meridian-gap : ℕ
+meridian-gap = 213000
+
+meridian-at-56 : Near60 (meridian-of GRS-80 (56 ° 0 ′ 0 ″)) (meridian-at GRS-80 (sine (radians (pos (56 ° 0 ′ 0 ″))))) (meridian-gap * unit)
+unfolding meridian-of meridian60 square60 meridian-at root60 ser60 mul60 latitude-sine rising rise-at part30 computing
+meridian-at-56 = record { gap = record { within = lit≤ tt } }
+
+pub meridian-near : {t : ℕ} (E : Ellipsoid) (y : ℤ)
+    → Fixed t y (16 * unit) (70 * S60 / 100) (87 * S60 / 100)
+    → Fixed (meridian60 (square60 E) t) (meridian-at E y) (meridian-gap * unit) (994 * S60 / 1000) S60
 unfolding meridian60 meridian-at numbers squareD seriesD
 meridian-near E y ft =
-    fix-le (213000 * unit) (994 * S60 / 1000) S60 (fix-root (fix-mul (square-near E) (fix-mul ft ft tt tt) tt tt) tt tt tt) tt tt tt
+    fix-le (meridian-gap * unit) (994 * S60 / 1000) S60 (fix-root (fix-mul (square-near E) (fix-mul ft ft tt tt) tt tt) tt tt tt) tt tt tt
 
 -- of v near f·z, or its opposite
 pub spread-near : {v : ℕ} (s : Bool) (f z : ℤ)
@@ -131,7 +142,7 @@ spread-near {v} s f z hf hz fv =
 module _ {k r₁ r₂ : ℕ} (E : Ellipsoid) (d2 : ℕ) (K c ρ₁ d ρ₂ : ℤ)
     (fk : Fixed k K (9 * unit) (994 * S60 / 1000) S60)
     (fc-high : Within c (1 * unit)) (fc-low : unit / 2 ≤ natAbs c)
-    (f₁ : Fixed r₁ ρ₁ (213000 * unit) (994 * S60 / 1000) S60)
+    (f₁ : Fixed r₁ ρ₁ (meridian-gap * unit) (994 * S60 / 1000) S60)
     (fd : Fixed (2 * d2) d (110 * unit) (178 * S60 / 100) (220 * S60 / 100))
     (f₂ : Fixed r₂ ρ₂ (314000 * unit) (994 * S60 / 1000) S60) where
   abbrev k2 : ℤ
