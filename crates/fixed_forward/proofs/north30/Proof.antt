@@ -1,11 +1,14 @@
 -- `fixed_forward::north30` meets its contract. Assumes nothing.
-use mathlib.Core.Path.{_∙_}
-use Prim.Native.Nat.{_≤_}
+use mathlib.Core.List.{List}
+use mathlib.Core.Path.{_≡_, refl, _∙_}
+use Prim.Native.Nat.{ℕ, _≤_}
 use native.Mathlib.Nat.{le-trans}
 use native.Mathlib.Omega.{arith}
 use lib.Dec.{lit≤}
 use mir.Syntax.{w64}
 use mir.ValLaws.{toZ-ofZ}
+use Rattle.fixed.specs.Worked.{odd-alt60}
+use Rattle.fixed.specs.Tables.{arctan-table}
 use Rattle.fixed.specs.Laws.Products.{mul-low, mul-high}
 use Rattle.fixed_forward.specs.Along.{north30}
 use borrow.Author.Needs.{needs, sfits-of}
@@ -31,6 +34,13 @@ slice-aggregate-odd-alt60 c = search needs
 odd-alt60-requires : tie.Need-odd-alt60-requires
 odd-alt60-requires c κs = search needs
 
+-- the code's table is the one of the worked number
+abbrev table-of : {r : ℕ} (x : ℕ) (t : List ℕ) → r ≡ odd-alt60 x t → List ℕ
+table-of x t h = t
+
+same-table : (c : tie.After-odd-alt60) → table-of _ _ (c .odd-alt60 .ensures .0) ≡ arctan-table
+same-table c = refl
+
 mul60-requires-2 : tie.Need-mul60-requires-2
 mul60-requires-2 c κs = search needs
 
@@ -39,7 +49,7 @@ signed30-requires c κs = search needs
 
 returns : tie.Need-returns
 unfolding north30
-returns c = toZ-ofZ w64 (c .signed30 .result) (sfits-of (c .signed30 .ok)) ∙ cc
+returns c = toZ-ofZ w64 (c .signed30 .result) (sfits-of (c .signed30 .ok)) ∙ cc (same-table (c .before .before))
 
 pub north30-spec : {M : Type 1} → statement M
 north30-spec =
