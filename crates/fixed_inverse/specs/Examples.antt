@@ -10,11 +10,11 @@ use Rattle.fixed_inverse.specs.Worked.{latitude-ticks, difference-ticks}
 use Rattle.fixed_inverse.specs.Worked as Worked
 
 -- switches that open the worked numbers and the definition
-unfoldable worked : ℕ
+unfoldable pub worked : ℕ
 unfolding Base.mul60 Base.quot60 Base.alt60 Base.ser60 Base.odd-alt60 Base.odd-ser60 Base.even-alt60 Base.even-ser60 Base.tilt60 Base.tilt-south Worked.over-radius Worked.angle60 Worked.difference60 Worked.seed60 Worked.closer60 Worked.root60 Worked.beside-52 Worked.about-52 Worked.sphere60 Worked.latitude-table Worked.latitude60 Worked.nearest-even Worked.ticks60 Worked.latitude-ticks Worked.difference-ticks
 worked = 0
 
-unfoldable defined : ℕ
+unfoldable pub defined : ℕ
 unfolding Scaled.product Scaled.quotient Scaled.raised Scaled.root-by Scaled.root Scaled.sqrt Scaled.radians Scaled.turned-to Scaled.summed Scaled.alternating Scaled.nested Scaled.fractions Scaled.factorial Scaled.sine-divisors Scaled.cosine-divisors Scaled.sine Scaled.cosine Scaled.hyperbolic-sine-coefficients Scaled.hyperbolic-cosine-coefficients Scaled.hyperbolic-sine Scaled.hyperbolic-cosine Scaled.odd-fractions Scaled.arctan Scaled.at-52 Scaled.tan-52 Scaled.arctan-about-52 Projection.latitude-of Projection.inverse-from constants
 defined = 0
 

@@ -3,20 +3,21 @@
 use mathlib.Core.Bool.{Bool, true, false}
 use mathlib.Core.Path.{_≡_, refl, sym, _∙_, ap, subst}
 use mathlib.Core.List.{List, [], _∷_}
-use Prim.Native.Nat.{ℕ, _*_, _/_, _≤_}
+use Prim.Native.Nat.{ℕ, _*_, _/_, _^_, _≤_}
 use native.Mathlib.Nat.{mul-le-mul-right}
 use native.Mathlib.Omega.{arith}
-use lib.Dec.{T, leb, leb→le}
+use lib.Dec.{T, leb, leb→le, lit≤}
 use lib.IntN.{ℤ, pos, negℤ, _-ℤ_, _*ℤ_, natAbs}
 use Rattle.arith.specs.Order.{abs-neg}
 use Rattle.arith.specs.Ring.{ring, Z·ring, by-ring}
 use Rattle.rules.specs.Rounding as Rounding
 use Rattle.rules.specs.Scaled.{unit, quotient, hyperbolic-cosine}
-use Rattle.rules.specs.Systems.{Ellipsoid, constants}
+use Rattle.rules.specs.Systems.{_/10^_, Ellipsoid, GRS-80, constants}
 use Rattle.rules.specs.Projection.{Inverse, inverse-from}
 use Rattle.fixed.specs.Worked.{S60}
 use Rattle.fixed.specs.Nearness.{Near30, turned}
 use Rattle.fixed_inverse.specs.Worked.{latitude-ticks, difference-ticks}
+use Rattle.fixed_inverse.specs.Examples.{worked, defined}
 use Rattle.fixed_inverse.specs.Laws.Radius.{x-low, x-high, y-high, x-angle, y-angle}
 use Rattle.fixed_inverse.specs.Laws.Turns.{near-sine, near-cosh, near-difference, difference-high}
 use Rattle.fixed_inverse.specs.Laws.About52.{near-sphere}
@@ -49,8 +50,17 @@ band {k} {t} true value u h = record { bound = hundredths k (natAbs (negℤ (pos
     law : (t w U : ℤ) → negℤ (t *ℤ U -ℤ negℤ w) ≡ negℤ t *ℤ U -ℤ w
     law t w U = ring (t ∷ w ∷ U ∷ []) λ ρ e1 e2 e3. simp (Z·ring, e1, e2, e3) (by-ring _ _ _ refl)
 
+-- how near the latitude is shown to be, in thousandths of a tick
+abbrev pub latitude-gap : ℕ
+latitude-gap = 518
+
+-- a point of Examples: rounded, its latitude is 0.2154 tick off, and no bound nearer than that is true
+latitude-there : Tick latitude-gap (latitude-ticks GRS-80 (5780000 * 2 ^ 30) (120000 * 2 ^ 30)) (definition GRS-80 (5780000 /10^ 0) (120000 /10^ 0) .B)
+unfolding worked defined
+latitude-there = record { bound = lit≤ tt }
+
 module _ (E : Ellipsoid) (west : Bool) {x y : ℕ} (X Y : ℤ) (m : Mercator west x y X Y) where
-  pub latitude-near : Tick 518 (latitude-ticks E x y) (definition E X Y .B)
+  pub latitude-near : Tick latitude-gap (latitude-ticks E x y) (definition E X Y .B)
   unfolding latitude-ticks inverse-from tickE turned
   latitude-near =
       let p = x-angle E X (m .low) (m .high) (m .near-x) in
