@@ -1,11 +1,16 @@
 -- Every band of every table is tested here, by computing. Assumes nothing.
 use mathlib.Core.Bool.{Bool, true, false, cond}
 use Prim.Native.Nat.{ℕ, _*_, _/_}
-use lib.Dec.{T, ltb}
-use Rattle.rules.specs.Scaled.{unit}
+use lib.Dec.{T, ltb, lit≤}
+use lib.IntN.{pos}
+use Rattle.rules.specs.Units.{_°_′_″}
+use Rattle.rules.specs.Scaled.{unit, radians, cosine}
+use Rattle.rules.specs.Computing.{computing}
 use Rattle.rules.specs.Systems.{Ellipsoid, GRS-80, Krasovsky}
 use Rattle.fixed.specs.Worked.{S60}
-use Rattle.fixed_bands.specs.Worked.{shortfall-table}
+use Rattle.fixed.specs.Nearness.{Near60}
+use Rattle.fixed_bands.specs.Worked.{latitude-cosine, shortfall-table}
+use Rattle.fixed_bands.specs.Examples.{worked}
 use Rattle.fixed_bands.specs.Tables.{latitude-sine-table, latitude-cosine-table, longitude-sine-table, longitude-cosine-table}
 use Rattle.fixed_bands.specs.Tests.{every, rise-row, sink-row}
 use Rattle.fixed_bands.specs.Along.{latitude-sine-model, latitude-cosine-model, longitude-sine-model, longitude-cosine-model, shortfall-model}
@@ -34,7 +39,15 @@ pub latitude-sine-check : T (every 32 (λ i. rise-row latitude-sine-table i (lat
 unfolding bands
 latitude-sine-check = tt
 
-pub latitude-cosine-check : T (every 32 (λ i. sink-row latitude-cosine-table i (latitude-cosine-model i) (14 * unit) (cosine-low i) (cosine-high i)))
+-- how near the cosine is shown to be, in units of 2^-60; at 50° it is more than 8 of them off
+abbrev pub cosine-gap : ℕ
+cosine-gap = 14
+
+cosine-at-50 : Near60 (latitude-cosine (50 ° 0 ′ 0 ″)) (cosine (radians (pos (50 ° 0 ′ 0 ″)))) (cosine-gap * unit)
+unfolding worked computing
+cosine-at-50 = record { gap = record { within = lit≤ tt } }
+
+pub latitude-cosine-check : T (every 32 (λ i. sink-row latitude-cosine-table i (latitude-cosine-model i) (cosine-gap * unit) (cosine-low i) (cosine-high i)))
 unfolding bands
 latitude-cosine-check = tt
 
