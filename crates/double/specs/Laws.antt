@@ -1,4 +1,5 @@
--- What is proved of the definitions.
+-- What is proved of the definitions; Examples has values worked out.
+pub mod Examples
 pub mod Nearness
 pub mod Rounding
 pub mod Operations

@@ -1,9 +1,8 @@
 // Complex numbers as pairs of doubles, by value, and a polynomial with real coefficients at one. Each contract says what the parts are
 // in doubles; how far these are from the exact polynomial is in proofs/.
 ghost use mathlib.Core.Path.{_≡_};
-ghost use mathlib.Core.Bool.{_&&_};
 ghost use Rattle.double.specs.Value.{finite};
-ghost use Rattle.double.specs.Complex.{sum, product, step, horner};
+ghost use Rattle.double.specs.Complex.{sum, product, step, horner, finite-pair};
 
 pub mod series;
 
@@ -66,7 +65,7 @@ pub fn is_finite(x: f64) -> bool
 
 // Whether a step's answer is finite in both parts: what is not is refusal 10. `Never` shows that it is for every point in range.
 pub fn is_finite_pair(p: Pair) -> bool
-    ensures { λ r. ⌜ r ≡ finite (p .re) && finite (p .im) ⌝ }
+    ensures { λ r. ⌜ r ≡ finite-pair p ⌝ }
 {
     if is_finite(p.re) {
         is_finite(p.im)

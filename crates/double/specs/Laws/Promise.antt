@@ -10,15 +10,25 @@ use lib.Pow.{pow-pos}
 use lib.IntN.{ℤ, pos, natAbs, _-ℤ_, _*ℤ_}
 use Rattle.rules.specs.Scaled as scaled
 use Rattle.rules.specs.Scaled.{unit}
+use Rattle.rules.specs.Systems.{Krasovsky, constants, a-coefficients}
 use Rattle.rules.specs.Polynomial.{double-unit, exact, Small, Near-exact}
 use Rattle.double.specs.declared.Pair.{Pair}
-use Rattle.double.specs.Value.{value}
-use Rattle.double.specs.Complex.{horner, Numbers, values}
+use Rattle.double.specs.Value.{magnitude, value}
+use Rattle.double.specs.Complex.{nought, real, horner, Numbers, values}
 use Rattle.double.specs.Pairs.{_⊙_, Close}
-use Rattle.double.specs.Exact.{at, doubles}
-use Rattle.double.specs.Bound.{Light, LightTable, Inside, per-metre, Answered, AnsweredTable, reach}
+use Rattle.double.specs.Exact.{at, nearest-double, doubles}
+use Rattle.double.specs.Bound.{Light, LightTable, Inside, per-metre, Tenth, Answered, AnsweredTable, reach}
+use Rattle.double.specs.Laws.Examples.{arithmetic}
 use Rattle.double.specs.Laws.Modulus.{close-first, close-second}
 use Rattle.double.specs.Laws.Bound.{at-exact, polynomial-near}
+
+-- ---- at the centre the answer is the double next to a0: 1.2e-10 m off on Krasovsky's ellipsoid, so that no bound nearer than that is true
+abbrev a-table : List ℤ
+a-table = a-coefficients (constants Krasovsky)
+
+centre-near : Tenth unit 6 (value (horner (doubles unit a-table) (real nought) .re)) (exact a-table (values (real nought)) .first)
+unfolding arithmetic horner doubles nearest-double magnitude value exact double-unit constants a-coefficients
+centre-near = record { bound = lit≤ tt }
 
 -- ---- from parts in 2 ^ 53 to 10 ^ -7
 within : (x q t : ℕ) → 2 ^ 53 * x ≤ q * t → q * per-metre ≤ 2 ^ 53 → per-metre * x ≤ t
