@@ -1,4 +1,5 @@
 -- How near the worked values are to the definition's.
+pub mod Examples
 pub mod Millimetres
 pub mod Argument
 pub mod Plane

@@ -46,8 +46,12 @@ millionths-of s = natAbs (s .m0) / 10 ^ 18
 unfoldable pub worked-X : System → ℤ → ℤ → ℤ
 worked-X s B d = offset-X s +ℤ scaled-part (millionths-of s) (value (plane-pair (s .ellipsoid) (natAbs B) (natAbs d) .re))
 
+-- Y of a second part p, on its side of the meridian: the part is rounded first, and the whole offset added then, so that east and west of the meridian mirror
+abbrev pub beside-Y : System → Bool → Float → ℤ
+beside-Y s west p = offset-Y s +ℤ turned west (scaled-part (millionths-of s) (value p))
+
 unfoldable pub worked-Y : System → ℤ → ℤ → ℤ
-worked-Y s B d = offset-Y s +ℤ turned (below-zero d) (scaled-part (millionths-of s) (value (plane-pair (s .ellipsoid) (natAbs B) (natAbs d) .im)))
+worked-Y s B d = beside-Y s (below-zero d) (plane-pair (s .ellipsoid) (natAbs B) (natAbs d) .im)
 
 -- the derivative in metres by z
 unfoldable pub slope-pair : Ellipsoid → ℕ → ℕ → Pair
