@@ -7,7 +7,7 @@ use native.Mathlib.Nat.{le-trans}
 use native.Mathlib.Omega.{arith}
 use lib.Dec.{ltb, lit≤}
 use lib.IntN.{ℤ, pos, _-ℤ_}
-use Rattle.arith.specs.Ring.{ring, Z·ring, by-ring}
+use Rattle.arith.specs.Laws.Ring.{ring, Z·ring, by-ring}
 use Rattle.rules.specs.Units.{_°_′_″}
 use Rattle.rules.specs.Scaled.{unit, one, radians, sine, cosine}
 use Rattle.rules.specs.Systems.{Ellipsoid, constants}

@@ -5,8 +5,8 @@ use mathlib.Core.List.{List, [], _∷_}
 use Prim.Native.Nat.{ℕ, _+_, _*_, _<_, _≤_}
 use lib.Dec.{lit<}
 use lib.IntN.{ℤ, pos, negℤ, _+ℤ_, _-ℤ_, _*ℤ_}
-use Rattle.arith.specs.Ring.{ring, Z·ring, by-ring, ev-num}
-use Rattle.arith.specs.Within.{w-num}
+use Rattle.arith.specs.Laws.Ring.{ring, Z·ring, by-ring, ev-num}
+use Rattle.arith.specs.Laws.Within.{w-num}
 use Rattle.rules.specs.Units.{half-turn-in-ticks}
 use Rattle.rules.specs.Scaled.{Pi, radians, sine, cosine, artanh, exponential, product, sine-divisors, cosine-divisors, odd-fractions, exponential-coefficients}
 use Rattle.rules.specs.Systems.{Ellipsoid, Constants, constants}

@@ -5,9 +5,10 @@ use mathlib.Core.List.{List, [], _∷_}
 use Prim.Native.Nat.{ℕ, zero, suc, _+_, _*_, _-_, _/_, _^_, _<_, _≤_}
 use lib.Dec.{T, lit<}
 use lib.IntN.{ℤ, pos, negℤ, _+ℤ_, _-ℤ_, _*ℤ_}
-use Rattle.arith.specs.Ring.{ring, Z·ring, by-ring, ev-num}
+use Rattle.arith.specs.Laws.Ring.{ring, Z·ring, by-ring, ev-num}
 use Rattle.arith.specs.Floor.{floor}
-use Rattle.arith.specs.Within.{Within, w-num, w-add, w-sub, w-neg, w-mul}
+use Rattle.arith.specs.Within.{Within}
+use Rattle.arith.specs.Laws.Within.{w-num, w-add, w-sub, w-neg, w-mul}
 use Rattle.rules.specs.Scaled.{unit, one, product, nested, summed}
 use Rattle.fixed.specs.Laws.Bounds.{w-div, w-same, w-floor-rest}
 use Rattle.fixed.specs.Laws.Nested.{all-positive, first-positive, rest-positive}

@@ -5,9 +5,10 @@ use Prim.Native.Nat.{ℕ, zero, suc, _+_, _*_, _≤_}
 use native.Mathlib.Nat.{mul-le-mul, add-le-add, le-trans, le-refl}
 use native.Mathlib.Omega.{arith}
 use lib.IntN.{ℤ, pos, negℤ, _+ℤ_, _-ℤ_, _*ℤ_, natAbs}
-use Rattle.arith.specs.Ring.{ring, Z·ring, by-ring, ev-num}
+use Rattle.arith.specs.Laws.Ring.{ring, Z·ring, by-ring, ev-num}
 use Rattle.arith.specs.Floor.{floor}
-use Rattle.arith.specs.Within.{Within, by-abs, w-num, w-add, w-mul}
+use Rattle.arith.specs.Within.{Within}
+use Rattle.arith.specs.Laws.Within.{by-abs, w-num, w-add, w-mul}
 use Rattle.fixed.specs.Laws.Bounds.{w-pos}
 
 -- c₀ + c₁·h + c₂·h² + ..

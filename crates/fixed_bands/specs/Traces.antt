@@ -7,8 +7,9 @@ use native.Mathlib.Nat.{mul-le-mul, le-trans, le-refl, div-add-mod'}
 use native.Mathlib.Omega.{arith}
 use lib.Dec.{lit<}
 use lib.IntN.{ℤ, pos, negℤ, _+ℤ_, _-ℤ_, _*ℤ_}
-use Rattle.arith.specs.Ring.{ring, Z·ring, by-ring, ev-num}
-use Rattle.arith.specs.Within.{Within, w-num, w-add, w-sub, w-neg, w-mul}
+use Rattle.arith.specs.Laws.Ring.{ring, Z·ring, by-ring, ev-num}
+use Rattle.arith.specs.Within.{Within}
+use Rattle.arith.specs.Laws.Within.{w-num, w-add, w-sub, w-neg, w-mul}
 use Rattle.fixed.specs.Worked.{P30}
 use Rattle.fixed.specs.Laws.Bounds.{w-same, w-up, w-pos, w-rest}
 use Rattle.fixed_bands.specs.Worked.{part30}

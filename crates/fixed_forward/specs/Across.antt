@@ -5,7 +5,8 @@ use Prim.Native.Nat.{ℕ, _*_, _-_, _/_, _^_, _≤_}
 use native.Mathlib.Nat.{le-trans}
 use lib.Dec.{lit≤}
 use lib.IntN.{ℤ, natAbs}
-use Rattle.arith.specs.Within.{Within, w-le}
+use Rattle.arith.specs.Within.{Within}
+use Rattle.arith.specs.Laws.Within.{w-le}
 use Rattle.rules.specs.Systems.{Ellipsoid, constants}
 use Rattle.rules.specs.Scaled.{unit, product, quotient, artanh}
 use Rattle.fixed.specs.Worked.{S60, mul60, quot60, odd-ser60}

@@ -8,8 +8,9 @@ use native.Mathlib.Nat.{le-trans, mul-le-mul-left}
 use native.Mathlib.Omega.{arith}
 use lib.Dec.{lit<, lit≤}
 use lib.IntN.{ℤ, pos, _+ℤ_, _-ℤ_, _*ℤ_, natAbs}
-use Rattle.arith.specs.Ring.{ring, Z·ring, by-ring}
-use Rattle.arith.specs.Within.{Within, w-num, w-add, w-sub, w-mul, w-le}
+use Rattle.arith.specs.Laws.Ring.{ring, Z·ring, by-ring}
+use Rattle.arith.specs.Within.{Within}
+use Rattle.arith.specs.Laws.Within.{w-num, w-add, w-sub, w-mul, w-le}
 use Rattle.rules.specs.Systems.{_/10^_, Ellipsoid, constants}
 use Rattle.rules.specs.Scaled.{unit, product, quotient, arctan, at-52, arctan-about-52}
 use Rattle.fixed.specs.Worked.{S60, mul60, odd-alt60}

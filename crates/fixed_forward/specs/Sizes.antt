@@ -7,7 +7,7 @@ use native.Mathlib.Nat.{le-trans, mul-le-mul}
 use native.Mathlib.Omega.{arith}
 use lib.Dec.{lit≤}
 use lib.IntN.{ℤ, pos, _+ℤ_, _*ℤ_, natAbs}
-use Rattle.arith.specs.Order.{abs-add, abs-neg}
+use Rattle.arith.specs.Laws.Order.{abs-add, abs-neg}
 use Rattle.rules.specs.Units.{_°_′_″}
 use Rattle.rules.specs.Systems.{Ellipsoid, GRS-80, Krasovsky, constants}
 use Rattle.rules.specs.Scaled.{unit, product, radians, sine, cosine}

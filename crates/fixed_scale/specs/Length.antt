@@ -9,10 +9,11 @@ use native.Mathlib.Omega.{arith}
 use lib.Dec.{lit<, lit≤}
 use lib.IntN.{ℤ, pos, negℤ, _+ℤ_, _-ℤ_, _*ℤ_, natAbs}
 use lib.Signed.{_≤ℤ_}
-use Rattle.arith.specs.Diff.{_⊖_, Z·ℕ, lin}
-use Rattle.arith.specs.Order.{abs-mul, abs-nonneg, nn-add, sq-nonneg, mul-nonneg, nn-num}
-use Rattle.arith.specs.Ring.{ring, Z·ring, by-ring, ev-num}
-use Rattle.arith.specs.Within.{Within, w-num, w-add, w-sub, w-neg, w-mul, w-le}
+use Rattle.arith.specs.Laws.Diff.{_⊖_, Z·ℕ, lin}
+use Rattle.arith.specs.Laws.Order.{abs-mul, abs-nonneg, nn-add, sq-nonneg, mul-nonneg, nn-num}
+use Rattle.arith.specs.Laws.Ring.{ring, Z·ring, by-ring, ev-num}
+use Rattle.arith.specs.Within.{Within}
+use Rattle.arith.specs.Laws.Within.{w-num, w-add, w-sub, w-neg, w-mul, w-le}
 use Rattle.rules.specs.Scaled.{unit, product, quotient, sqrt, root, Pair, pair-length}
 use Rattle.rules.specs.Projection.{two-millionths, polynomial-scale}
 use Rattle.fixed.specs.Worked.{S60, mul60}

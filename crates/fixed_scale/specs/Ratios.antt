@@ -7,9 +7,10 @@ use native.Mathlib.Nat.{le-trans, le-of-eq, le-refl, le-div-iff-mul-le, le-of-mu
 use native.Mathlib.Omega.{arith}
 use lib.Dec.{lit<, lit≤}
 use lib.IntN.{ℤ, pos, _+ℤ_, _-ℤ_, _*ℤ_, natAbs}
-use Rattle.arith.specs.Order.{abs-mul}
-use Rattle.arith.specs.Ring.{ring, Z·ring, by-ring}
-use Rattle.arith.specs.Within.{Within, w-num, w-add, w-sub, w-mul}
+use Rattle.arith.specs.Laws.Order.{abs-mul}
+use Rattle.arith.specs.Laws.Ring.{ring, Z·ring, by-ring}
+use Rattle.arith.specs.Within.{Within}
+use Rattle.arith.specs.Laws.Within.{w-num, w-add, w-sub, w-mul}
 use Rattle.rules.specs.Scaled.{unit, one, product, quotient}
 use Rattle.fixed.specs.Nearness.{Ratio}
 use Rattle.fixed.specs.Laws.Bounds.{w-div, w-same, w-up, w-floor, triangle}

@@ -8,8 +8,8 @@ use native.Mathlib.Nat.{le-trans}
 use native.Mathlib.Omega.{arith}
 use lib.Dec.{lit<, lit≤}
 use lib.IntN.{ℤ, pos, negsuc, negℤ, natAbs}
-use Rattle.arith.specs.Ring.{ring, Z·ring, by-ring}
-use Rattle.arith.specs.Within.{by-abs, w-sub}
+use Rattle.arith.specs.Laws.Ring.{ring, Z·ring, by-ring}
+use Rattle.arith.specs.Laws.Within.{by-abs, w-sub}
 use Rattle.rules.specs.Units.{_°_′_″, half-turn-in-thousandths}
 use Rattle.rules.specs.Systems.{Ellipsoid, constants}
 use Rattle.rules.specs.Scaled.{unit, quotient, radians, sine, cosine, turned-to, Pair}

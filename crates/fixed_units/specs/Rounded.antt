@@ -7,9 +7,9 @@ use native.Mathlib.Nat.{le-refl, le-trans, le-of-eq, mul-pos, mul-assoc, mul-le-
 use native.Mathlib.Omega.{arith}
 use lib.Dec.{T, leb, leb→le, lit<}
 use lib.IntN.{ℤ, pos, negℤ, _+ℤ_, _-ℤ_, _*ℤ_, natAbs}
-use Rattle.arith.specs.Order.{abs-mul, abs-neg}
-use Rattle.arith.specs.Ring.{ring, Z·ring, by-ring, ev-num}
-use Rattle.arith.specs.Within.{by-abs, w-num, w-add, w-sub, w-mul}
+use Rattle.arith.specs.Laws.Order.{abs-mul, abs-neg}
+use Rattle.arith.specs.Laws.Ring.{ring, Z·ring, by-ring, ev-num}
+use Rattle.arith.specs.Laws.Within.{by-abs, w-num, w-add, w-sub, w-mul}
 use Rattle.arith.specs.Within as A
 use Rattle.rules.specs.Scaled.{unit, Pi, turned-to}
 use Rattle.rules.specs.Rounding.{Within}

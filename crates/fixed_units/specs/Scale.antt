@@ -8,8 +8,8 @@ use native.Mathlib.Nat.{mod-lt, div-add-mod'}
 use native.Mathlib.Omega.{arith}
 use lib.Dec.{lit<}
 use lib.IntN.{ℤ, pos, _+ℤ_, _-ℤ_, _*ℤ_}
-use Rattle.arith.specs.Ring.{ring, Z·ring, by-ring, ev-num}
-use Rattle.arith.specs.Within.{w-num, w-sub, w-mul}
+use Rattle.arith.specs.Laws.Ring.{ring, Z·ring, by-ring, ev-num}
+use Rattle.arith.specs.Laws.Within.{w-num, w-sub, w-mul}
 use Rattle.rules.specs.Units.{_°_′_″, units-in-scale}
 use Rattle.rules.specs.Systems.{Ellipsoid, constants}
 use Rattle.rules.specs.Scaled.{unit, product, quotient, radians, sine, cosine, Pair}

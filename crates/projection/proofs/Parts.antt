@@ -6,7 +6,7 @@ use native.Mathlib.Omega.{arith}
 use lib.Dec.{lit<}
 use lib.IntN.{ℤ, pos, negsuc, natAbs, _-ℤ_}
 use lib.Signed.{_≤ℤ_}
-use Rattle.arith.specs.Diff.{_⊖_, Z·ℕ}
+use Rattle.arith.specs.Laws.Diff.{_⊖_, Z·ℕ}
 use Rattle.rules.specs.Polynomial.{double-unit}
 use Rattle.double.specs.Laws.Operations.{double-unit-pos}
 use Rattle.metres.specs.Millimetres.{Fits, truncated}

@@ -4,7 +4,7 @@ use mathlib.Core.Path.{_≡_, refl, sym, _∙_, ap, ap₂}
 use Prim.Native.Nat.{ℕ, _*_, _/_, _^_}
 use native.Mathlib.Omega.{arith}
 use lib.IntN.{ℤ, pos, natAbs, _+ℤ_, _-ℤ_, _*ℤ_}
-use Rattle.arith.specs.Order.{abs-mul}
+use Rattle.arith.specs.Laws.Order.{abs-mul}
 use Rattle.rules.specs.Systems.{System, Ellipsoid}
 use Rattle.rules.specs.Points.{offset-X, offset-Y}
 use Rattle.systems.specs.Zones.{Stands}

@@ -7,8 +7,8 @@ use native.Mathlib.Omega.{arith}
 use lib.Dec.{T, ltb→lt}
 use lib.IntN.{ℤ, pos, negsuc, negℤ, natAbs, _-ℤ_}
 use lib.Signed.{_≤ℤ_, _<ℤ_, nonNeg}
-use Rattle.arith.specs.Diff.{_⊖_, Z·ℕ, lin}
-use Rattle.arith.specs.Order.{abs-nonneg}
+use Rattle.arith.specs.Laws.Diff.{_⊖_, Z·ℕ, lin}
+use Rattle.arith.specs.Laws.Order.{abs-nonneg}
 use Rattle.fixed.specs.Laws.Turned.{below-zero}
 
 pub minus-size : (z : ℤ) → natAbs (pos 0 -ℤ z) ≡ natAbs z

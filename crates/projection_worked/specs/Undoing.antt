@@ -9,7 +9,8 @@ use lib.IntN.{ℤ, pos}
 use mir.Syntax.{w64}
 use mir.Val.{toZ}
 use mir.ValLaws.{toZ-pos}
-use Rattle.arith.specs.Machine.{Is, v-is}
+use Rattle.arith.specs.Machine.{Is}
+use Rattle.arith.specs.Laws.Machine.{v-is}
 use Rattle.systems.specs.Zones.{ellipsoid-of}
 use Rattle.fixed.specs.Nearness.{turned}
 use Rattle.fixed_inverse.specs.Worked.{ellipsoid}

@@ -6,8 +6,8 @@ use Prim.Native.Nat.{ℕ, _*_, _^_, _≤_, _<_}
 use native.Mathlib.Omega.{arith}
 use lib.IntN.{ℤ, pos, negℤ, natAbs, _+ℤ_, _-ℤ_, _*ℤ_}
 use lib.Signed.{_≤ℤ_, _<ℤ_, ltZ}
-use Rattle.arith.specs.Diff.{_⊖_, Z·ℕ, lin}
-use Rattle.arith.specs.Ring.{ring, Z·ring, by-ring, ev-num, ev-nneg}
+use Rattle.arith.specs.Laws.Diff.{_⊖_, Z·ℕ, lin}
+use Rattle.arith.specs.Laws.Ring.{ring, Z·ring, by-ring, ev-num, ev-nneg}
 use Rattle.rules.specs.Systems.{System}
 use Rattle.rules.specs.Scaled.{one}
 use Rattle.rules.specs.Points.{above, longitude-bad, plane-bad, metres-times-m0}

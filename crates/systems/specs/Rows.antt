@@ -6,7 +6,7 @@ use Prim.Native.Nat.{ℕ, _*_, _^_, _≤_}
 use lib.Dec.{T, leb, leb→le}
 use lib.IntN.{ℤ, pos, natAbs, _*ℤ_}
 use lib.Signed.{_≤ℤ_, leZ}
-use Rattle.arith.specs.Order.{≤ℤ-antisym}
+use Rattle.arith.specs.Laws.Order.{≤ℤ-antisym}
 use Rattle.rules.specs.Units.{millimetres-in-metre}
 use Rattle.rules.specs.Refusals.{Answer, answered}
 use Rattle.rules.specs.Systems.{System, Ellipsoid, GRS-80, Krasovsky, same-ellipsoid, system}

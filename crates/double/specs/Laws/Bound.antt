@@ -8,7 +8,7 @@ use lib.Dec.{lit≤, lit<}
 use lib.ListN.{length}
 use lib.Pow.{pow-pos, pow-add, pow-mono}
 use lib.IntN.{ℤ, pos, natAbs, _*ℤ_}
-use Rattle.arith.specs.Ring.{ring, Z·ring, by-ring}
+use Rattle.arith.specs.Laws.Ring.{ring, Z·ring, by-ring}
 use Rattle.rules.specs.Scaled as scaled
 use Rattle.rules.specs.Polynomial.{double-unit, exact}
 use Rattle.double.specs.declared.Pair.{Pair}

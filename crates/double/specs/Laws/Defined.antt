@@ -7,8 +7,8 @@ use native.Mathlib.Omega.{arith}
 use lib.Dec.{lit≤, lit<}
 use lib.ListN.{length}
 use lib.IntN.{ℤ, pos, natAbs, _+ℤ_, _-ℤ_, _*ℤ_}
-use Rattle.arith.specs.Order.{abs-add, abs-mul, abs-sub-comm}
-use Rattle.arith.specs.Ring.{ring, Z·ring, by-ring}
+use Rattle.arith.specs.Laws.Order.{abs-add, abs-mul, abs-sub-comm}
+use Rattle.arith.specs.Laws.Ring.{ring, Z·ring, by-ring}
 use Rattle.rules.specs.Scaled as scaled
 use Rattle.rules.specs.Scaled.{unit, polynomial, derivative, weighted}
 use Rattle.rules.specs.Polynomial.{double-unit, exact}

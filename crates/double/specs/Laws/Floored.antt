@@ -7,10 +7,10 @@ use native.Mathlib.Omega.{arith}
 use lib.Dec.{lit<}
 use lib.ListN.{length}
 use lib.IntN.{ℤ, pos, natAbs, _+ℤ_, _-ℤ_, _*ℤ_}
-use Rattle.arith.specs.Diff.{Z·ℕ, lin}
-use Rattle.arith.specs.Floor.{floor-rest-abs}
-use Rattle.arith.specs.Order.{abs-add, abs-sub}
-use Rattle.arith.specs.Ring.{ring, Z·ring, by-ring, ev-num}
+use Rattle.arith.specs.Laws.Diff.{Z·ℕ, lin}
+use Rattle.arith.specs.Laws.Floor.{floor-rest-abs}
+use Rattle.arith.specs.Laws.Order.{abs-add, abs-sub}
+use Rattle.arith.specs.Laws.Ring.{ring, Z·ring, by-ring, ev-num}
 use Rattle.rules.specs.Scaled.{unit, one, product, Pair, plus, times, polynomial-from, polynomial}
 use Rattle.double.specs.Pairs.{_⊝_, _⊗_, _⊙_, Modulus}
 use Rattle.double.specs.Exact.{at, weight, lost}

@@ -8,8 +8,8 @@ use lib.ListN.{length}
 use lib.Pow.{pow-pos}
 use lib.IntN.{ℤ, pos, natAbs, _+ℤ_, _-ℤ_, _*ℤ_}
 use lib.Ieee.{Float, fits}
-use Rattle.arith.specs.Ring.{ring, Z·ring, by-ring, ev-num}
-use Rattle.arith.specs.Order.{abs-mul}
+use Rattle.arith.specs.Laws.Ring.{ring, Z·ring, by-ring, ev-num}
+use Rattle.arith.specs.Laws.Order.{abs-mul}
 use Rattle.rules.specs.Scaled as scaled
 use Rattle.rules.specs.Polynomial.{double-unit}
 use Rattle.double.specs.declared.Pair.{Pair}

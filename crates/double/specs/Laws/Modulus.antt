@@ -7,9 +7,9 @@ use native.Mathlib.Nat.{le-trans, le-of-eq, le-refl, le-of-lt, lt-of-le-of-lt, l
 use native.Mathlib.Omega.{arith}
 use lib.Dec.{T, leb, leb→le, nleb→lt}
 use lib.IntN.{ℤ, pos, negsuc, natAbs, _+ℤ_, _-ℤ_, _*ℤ_}
-use Rattle.arith.specs.Laws.{pos-inj}
-use Rattle.arith.specs.Order.{abs-mul, abs-add}
-use Rattle.arith.specs.Ring.{ring, Z·ring, by-ring, ev-num}
+use Rattle.arith.specs.Laws.Integers.{pos-inj}
+use Rattle.arith.specs.Laws.Order.{abs-mul, abs-add}
+use Rattle.arith.specs.Laws.Ring.{ring, Z·ring, by-ring, ev-num}
 use Rattle.rules.specs.Scaled.{Pair}
 use Rattle.double.specs.Value.{Near}
 use Rattle.double.specs.Pairs.{_⊕_, _⊗_, _⊙_, _⊞_, square, Modulus, Close}

@@ -6,8 +6,8 @@ use native.Mathlib.Nat.{le-of-eq, pow-zero, pow-suc, one-mul, zero-mul}
 use native.Mathlib.Omega.{arith}
 use lib.ListN.{length}
 use lib.IntN.{ℤ, pos, natAbs, _+ℤ_, _-ℤ_, _*ℤ_}
-use Rattle.arith.specs.Order.{abs-mul}
-use Rattle.arith.specs.Ring.{ring, Z·ring, by-ring, ev-num}
+use Rattle.arith.specs.Laws.Order.{abs-mul}
+use Rattle.arith.specs.Laws.Ring.{ring, Z·ring, by-ring, ev-num}
 use Rattle.rules.specs.Scaled.{Pair, derivative, weighted}
 use Rattle.double.specs.Pairs.{_⊝_, _⊙_, Modulus}
 use Rattle.double.specs.Exact.{at, weight}

@@ -4,9 +4,9 @@ use Prim.Native.Nat.{ℕ, _+_, _*_, _^_, _≤_}
 use native.Mathlib.Nat.{le-trans, le-of-eq, mul-assoc, mul-le-mul-right}
 use native.Mathlib.Omega.{arith}
 use lib.IntN.{ℤ, pos, negsuc, negℤ, natAbs, _+ℤ_, _-ℤ_, _*ℤ_}
-use Rattle.arith.specs.Diff.{is-add, up-neg, dn-neg}
-use Rattle.arith.specs.Laws.{*ℤ-+ℤ, -ℤ-*ℤ}
-use Rattle.arith.specs.Order.{abs-mul}
+use Rattle.arith.specs.Laws.Diff.{is-add, up-neg, dn-neg}
+use Rattle.arith.specs.Laws.Integers.{*ℤ-+ℤ, -ℤ-*ℤ}
+use Rattle.arith.specs.Laws.Order.{abs-mul}
 use Rattle.double.specs.Value.{plus, minus, Near}
 
 -- ---- the parts above and below zero of a difference, and the size by them

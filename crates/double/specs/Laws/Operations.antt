@@ -12,7 +12,7 @@ use lib.Ieee.Fits.{down-pos, and-l, and-r, round-fits, neg-fits}
 use lib.Ieee.Exact.{HasValue}
 use lib.Ieee.Scale.{round-same}
 use Rattle.double.specs.Value.{limit, finite, signed, magnitude, negative, value, Number, plus, minus, Near}
-use Rattle.arith.specs.Diff.{is-add, up-neg, dn-neg}
+use Rattle.arith.specs.Laws.Diff.{is-add, up-neg, dn-neg}
 use Rattle.rules.specs.Polynomial.{double-unit}
 use Rattle.double.specs.Laws.Rounding.{grid, grid-near, grid-whole, grid-under, round-is-grid}
 

@@ -5,8 +5,8 @@ use native.Mathlib.Nat.{le-trans, le-of-eq, lt-of-mul-lt-mul-right, add-mul, mul
 use native.Mathlib.Omega.{arith}
 use lib.IntN.{ℤ, pos, negℤ, natAbs, _+ℤ_, _-ℤ_, _*ℤ_}
 use lib.Ieee.{Float, binary64, mul}
-use Rattle.arith.specs.Laws.{+ℤ-*ℤ, neg-*ℤ}
-use Rattle.arith.specs.Order.{abs-mul, abs-add, abs-sub, abs-neg}
+use Rattle.arith.specs.Laws.Integers.{+ℤ-*ℤ, neg-*ℤ}
+use Rattle.arith.specs.Laws.Order.{abs-mul, abs-add, abs-sub, abs-neg}
 use Rattle.rules.specs.Polynomial.{double-unit}
 use Rattle.double.specs.declared.Pair.{Pair}
 use Rattle.double.specs.Value.{limit, value, Number, Near}

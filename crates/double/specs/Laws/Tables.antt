@@ -8,9 +8,9 @@ use native.Mathlib.Omega.{arith}
 use lib.ListN.{length}
 use lib.IntN.{ℤ, pos, negsuc, natAbs, _+ℤ_, _-ℤ_, _*ℤ_}
 use lib.Ieee.{Float, binary64, round}
-use Rattle.arith.specs.Laws.{neg-*ℤ}
-use Rattle.arith.specs.Ring.{ring, Z·ring, by-ring, ev-num}
-use Rattle.arith.specs.Order.{abs-mul}
+use Rattle.arith.specs.Laws.Integers.{neg-*ℤ}
+use Rattle.arith.specs.Laws.Ring.{ring, Z·ring, by-ring, ev-num}
+use Rattle.arith.specs.Laws.Order.{abs-mul}
 use Rattle.rules.specs.Scaled.{Pair}
 use Rattle.rules.specs.Polynomial.{double-unit}
 use Rattle.double.specs.Value.{limit, signed, value, Number, plus, minus, Near}

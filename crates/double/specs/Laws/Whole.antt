@@ -11,8 +11,8 @@ use lib.Ieee.{Float, nan, inf, fin, binary64, up, down, unlike, round, mul, ofIn
 use lib.Ieee.Back.{round-whole}
 use lib.Ieee.Exact.{HasValue, round-exact}
 use lib.Ieee.Fits.{round-fits, mul-fits}
-use Rattle.arith.specs.Laws.{neg-*ℤ}
-use Rattle.arith.specs.Order.{abs-mul}
+use Rattle.arith.specs.Laws.Integers.{neg-*ℤ}
+use Rattle.arith.specs.Laws.Order.{abs-mul}
 use Rattle.rules.specs.Polynomial.{double-unit}
 use Rattle.double.specs.Value.{finite, signed, magnitude, negative, value, Number}
 use Rattle.double.specs.Laws.Operations.{value-of, signed-abs, mul-is}

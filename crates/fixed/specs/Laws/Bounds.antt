@@ -5,11 +5,13 @@ use Prim.Native.Nat.{ℕ, _+_, _*_, _-_, _/_, _<_, _≤_}
 use native.Mathlib.Nat.{le-trans, le-of-eq, le-div-iff-mul-le}
 use native.Mathlib.Omega.{arith}
 use lib.IntN.{ℤ, pos, _-ℤ_, _*ℤ_, natAbs}
-use Rattle.arith.specs.Diff.{_⊖_, Z·ℕ, lin}
-use Rattle.arith.specs.Order.{abs-mul}
-use Rattle.arith.specs.Ring.{ring, Z·ring, by-ring}
-use Rattle.arith.specs.Floor.{floor, floor-rest-abs}
-use Rattle.arith.specs.Within.{Within, w-sub}
+use Rattle.arith.specs.Laws.Diff.{_⊖_, Z·ℕ, lin}
+use Rattle.arith.specs.Laws.Order.{abs-mul}
+use Rattle.arith.specs.Laws.Ring.{ring, Z·ring, by-ring}
+use Rattle.arith.specs.Floor.{floor}
+use Rattle.arith.specs.Laws.Floor.{floor-rest-abs}
+use Rattle.arith.specs.Within.{Within}
+use Rattle.arith.specs.Laws.Within.{w-sub}
 
 -- a factor d > 0 comes off
 pub w-div : (z : ℤ) (d n : ℕ) → 0 < d → Within (z *ℤ pos d) n → Within z (n / d)

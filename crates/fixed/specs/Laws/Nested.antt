@@ -8,9 +8,10 @@ use native.Mathlib.Nat.{le-of-lt, le-refl, mul-le-mul-right}
 use native.Mathlib.Omega.{arith}
 use lib.Dec.{T, leb, ltb, ltb→lt, lit<}
 use lib.IntN.{ℤ, pos, negℤ, _+ℤ_, _-ℤ_, _*ℤ_, natAbs}
-use Rattle.arith.specs.Ring.{ring, Z·ring, by-ring, ev-num}
+use Rattle.arith.specs.Laws.Ring.{ring, Z·ring, by-ring, ev-num}
 use Rattle.arith.specs.Floor.{floor}
-use Rattle.arith.specs.Within.{Within, by-abs, w-num, w-add, w-sub, w-neg, w-mul}
+use Rattle.arith.specs.Within.{Within}
+use Rattle.arith.specs.Laws.Within.{by-abs, w-num, w-add, w-sub, w-neg, w-mul}
 use Rattle.rules.specs.Scaled.{unit, product, nested}
 use Rattle.fixed.specs.Worked.{S60, alt60}
 use Rattle.fixed.specs.Nearness.{Near60, Fixed}

@@ -7,11 +7,13 @@ use native.Mathlib.Nat.{mul-le-mul, le-trans, le-refl, le-div-iff-mul-le, div-mu
 use native.Mathlib.Omega.{arith}
 use lib.Dec.{T, leb, ltb, leb→le, ltb→lt, lit<}
 use lib.IntN.{ℤ, pos, negℤ, _+ℤ_, _-ℤ_, _*ℤ_, natAbs, *ℤ-comm}
-use Rattle.arith.specs.Diff.{_⊖_, Z·ℕ, lin}
-use Rattle.arith.specs.Ring.{ring, Z·ring, by-ring, ev-num}
-use Rattle.arith.specs.Floor.{floor, ≤-floor-iff}
+use Rattle.arith.specs.Laws.Diff.{_⊖_, Z·ℕ, lin}
+use Rattle.arith.specs.Laws.Ring.{ring, Z·ring, by-ring, ev-num}
+use Rattle.arith.specs.Floor.{floor}
+use Rattle.arith.specs.Laws.Floor.{≤-floor-iff}
 use lib.Signed.{_≤ℤ_}
-use Rattle.arith.specs.Within.{Within, w-num, w-add, w-sub, w-neg, w-mul}
+use Rattle.arith.specs.Within.{Within}
+use Rattle.arith.specs.Laws.Within.{w-num, w-add, w-sub, w-neg, w-mul}
 use Rattle.rules.specs.Scaled.{unit, product}
 use Rattle.fixed.specs.Worked.{S60, mul60}
 use Rattle.fixed.specs.Nearness.{NearAt, Near60, Fixed}

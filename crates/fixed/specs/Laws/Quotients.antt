@@ -7,10 +7,11 @@ use native.Mathlib.Omega.{arith}
 use native.Mathlib.Decide.{decLe}
 use lib.Dec.{T, leb, ltb, leb→le, ltb→lt, lit<}
 use lib.IntN.{ℤ, pos, negsuc, negℤ, _+ℤ_, _-ℤ_, _*ℤ_, natAbs}
-use Rattle.arith.specs.Order.{abs-mul}
-use Rattle.arith.specs.Ring.{ring, Z·ring, by-ring, ev-num}
+use Rattle.arith.specs.Laws.Order.{abs-mul}
+use Rattle.arith.specs.Laws.Ring.{ring, Z·ring, by-ring, ev-num}
 use Rattle.arith.specs.Floor.{floor}
-use Rattle.arith.specs.Within.{Within, by-abs, w-num, w-add, w-sub, w-neg, w-mul}
+use Rattle.arith.specs.Within.{Within}
+use Rattle.arith.specs.Laws.Within.{by-abs, w-num, w-add, w-sub, w-neg, w-mul}
 use Rattle.rules.specs.Scaled.{unit, product, quotient}
 use Rattle.fixed.specs.Worked.{S60, mul60, quot60}
 use Rattle.fixed.specs.Nearness.{Near60, Fixed, Ratio}

@@ -8,9 +8,10 @@ use native.Mathlib.Nat.{le-trans, le-of-eq, le-refl, le-of-mul-le-mul-right, mul
 use native.Mathlib.Omega.{arith}
 use lib.Dec.{T, leb, ltb, leb→le, ltb→lt, nltb→le, le→leb, lit<, lit≤}
 use lib.IntN.{ℤ, pos, negℤ, _+ℤ_, _-ℤ_, _*ℤ_, natAbs}
-use Rattle.arith.specs.Order.{abs-mul}
-use Rattle.arith.specs.Ring.{ring, Z·ring, by-ring}
-use Rattle.arith.specs.Within.{Within, w-num, w-add, w-sub, w-mul, w-le}
+use Rattle.arith.specs.Laws.Order.{abs-mul}
+use Rattle.arith.specs.Laws.Ring.{ring, Z·ring, by-ring}
+use Rattle.arith.specs.Within.{Within}
+use Rattle.arith.specs.Laws.Within.{w-num, w-add, w-sub, w-mul, w-le}
 use Rattle.rules.specs.Scaled.{unit, one, product, quotient, radians, nested, sine-divisors, cosine-divisors, sine, cosine, at-52, tan-52}
 use Rattle.fixed.specs.Worked.{S60, mul60, Tan52, apart, tilt60, tilt-south}
 use Rattle.fixed.specs.Nearness.{Near60, Fixed, Ratio, turned}

@@ -6,9 +6,10 @@ use mathlib.Core.List.{[], _∷_}
 use Prim.Native.Nat.{ℕ, _*_, _-_, _/_, _^_, _≤_}
 use lib.Dec.{T, leb}
 use lib.IntN.{ℤ, pos, negsuc, negℤ, _-ℤ_, _*ℤ_, natAbs}
-use Rattle.arith.specs.Ring.{ring, Z·ring, by-ring}
+use Rattle.arith.specs.Laws.Ring.{ring, Z·ring, by-ring}
 use Rattle.arith.specs.Floor.{floor}
-use Rattle.arith.specs.Within.{Within, w-neg}
+use Rattle.arith.specs.Within.{Within}
+use Rattle.arith.specs.Laws.Within.{w-neg}
 use Rattle.rules.specs.Scaled.{unit, product}
 use Rattle.fixed.specs.Worked.{S60, mul60}
 use Rattle.fixed.specs.Nearness.{NearAt, Near60, Fixed, Ratio, turned}

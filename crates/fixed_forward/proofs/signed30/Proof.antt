@@ -7,7 +7,8 @@ use lib.IntN.{ℤ, pos, _+ℤ_, _-ℤ_}
 use mir.Syntax.{w64}
 use mir.Val.{toZ}
 use mir.ValLaws.{toZ-pos}
-use Rattle.arith.specs.Machine.{Is, v-is, v-sub, need-sub}
+use Rattle.arith.specs.Machine.{Is}
+use Rattle.arith.specs.Laws.Machine.{v-is, v-sub, need-sub}
 use Rattle.fixed.specs.Nearness.{turned}
 use borrow.Author.Needs.{needs}
 use Rattle.fixed_forward.proofs.signed30.Statement.{statement}

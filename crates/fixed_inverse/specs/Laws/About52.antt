@@ -7,9 +7,10 @@ use native.Mathlib.Nat.{le-refl, le-trans, mul-le-mul-right}
 use native.Mathlib.Omega.{arith}
 use lib.Dec.{T, ltb, ltb→lt, lit<, lit≤}
 use lib.IntN.{ℤ, pos, negsuc, negℤ, _+ℤ_, _-ℤ_, _*ℤ_, natAbs}
-use Rattle.arith.specs.Diff.{_⊖_, Z·ℕ, lin}
-use Rattle.arith.specs.Ring.{ring, Z·ring, by-ring}
-use Rattle.arith.specs.Within.{Within, w-le}
+use Rattle.arith.specs.Laws.Diff.{_⊖_, Z·ℕ, lin}
+use Rattle.arith.specs.Laws.Ring.{ring, Z·ring, by-ring}
+use Rattle.arith.specs.Within.{Within}
+use Rattle.arith.specs.Laws.Within.{w-le}
 use Rattle.rules.specs.Scaled.{unit, one, product, quotient, sqrt, radians, at-52, arctan, arctan-about-52}
 use Rattle.fixed.specs.Worked.{S60, mul60, odd-alt60, Tan52, apart, tilt60, tilt-south}
 use Rattle.fixed.specs.Nearness.{Near60, Fixed, turned}

@@ -8,10 +8,11 @@ use native.Mathlib.Decide.{decLe}
 use native.Mathlib.Omega.{arith}
 use lib.Dec.{T, ltb, ltb→lt, lit<}
 use lib.IntN.{ℤ, pos, _+ℤ_, _-ℤ_, _*ℤ_, natAbs}
-use Rattle.arith.specs.Diff.{_⊖_, Z·ℕ}
-use Rattle.arith.specs.Order.{abs-mul}
-use Rattle.arith.specs.Ring.{ring, Z·ring, by-ring, ev-num}
-use Rattle.arith.specs.Within.{Within, w-num, w-add, w-sub, w-mul}
+use Rattle.arith.specs.Laws.Diff.{_⊖_, Z·ℕ}
+use Rattle.arith.specs.Laws.Order.{abs-mul}
+use Rattle.arith.specs.Laws.Ring.{ring, Z·ring, by-ring, ev-num}
+use Rattle.arith.specs.Within.{Within}
+use Rattle.arith.specs.Laws.Within.{w-num, w-add, w-sub, w-mul}
 use Rattle.rules.specs.Scaled.{unit}
 use Rattle.fixed.specs.Worked.{S60}
 use Rattle.fixed.specs.Nearness.{Near60}

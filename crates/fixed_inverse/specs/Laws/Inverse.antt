@@ -8,8 +8,8 @@ use native.Mathlib.Nat.{mul-le-mul-right}
 use native.Mathlib.Omega.{arith}
 use lib.Dec.{T, leb, leb→le, lit≤}
 use lib.IntN.{ℤ, pos, negℤ, _-ℤ_, _*ℤ_, natAbs}
-use Rattle.arith.specs.Order.{abs-neg}
-use Rattle.arith.specs.Ring.{ring, Z·ring, by-ring}
+use Rattle.arith.specs.Laws.Order.{abs-neg}
+use Rattle.arith.specs.Laws.Ring.{ring, Z·ring, by-ring}
 use Rattle.rules.specs.Rounding as Rounding
 use Rattle.rules.specs.Scaled.{unit, quotient, hyperbolic-cosine}
 use Rattle.rules.specs.Systems.{_/10^_, Ellipsoid, GRS-80, constants}

@@ -6,8 +6,9 @@ use native.Mathlib.Nat.{le-trans, add-le-add}
 use native.Mathlib.Omega.{arith}
 use lib.Dec.{T, lit<, lit≤}
 use lib.IntN.{ℤ, pos, _+ℤ_, _-ℤ_, _*ℤ_}
-use Rattle.arith.specs.Ring.{ring, Z·ring, by-ring, ev-num}
-use Rattle.arith.specs.Within.{Within, w-num, w-add, w-sub, w-mul}
+use Rattle.arith.specs.Laws.Ring.{ring, Z·ring, by-ring, ev-num}
+use Rattle.arith.specs.Within.{Within}
+use Rattle.arith.specs.Laws.Within.{w-num, w-add, w-sub, w-mul}
 use Rattle.rules.specs.Scaled.{unit, product, nested, sine, sine-divisors}
 use Rattle.rules.specs.Systems.{Ellipsoid, GRS-80, Krasovsky, constants}
 use Rattle.rules.specs.Projection.{latitude-of}

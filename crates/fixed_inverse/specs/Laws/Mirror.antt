@@ -8,9 +8,10 @@ use native.Mathlib.Nat.{le-trans, le-of-eq, le-of-mul-le-mul-right, mul-le-mul-l
 use native.Mathlib.Omega.{arith}
 use lib.Dec.{lit<, lit≤}
 use lib.IntN.{ℤ, pos, negℤ, _+ℤ_, _-ℤ_, _*ℤ_, natAbs}
-use Rattle.arith.specs.Order.{abs-mul}
-use Rattle.arith.specs.Ring.{ring, Z·ring, by-ring}
-use Rattle.arith.specs.Within.{Within, w-num, w-add, w-sub, w-neg, w-mul}
+use Rattle.arith.specs.Laws.Order.{abs-mul}
+use Rattle.arith.specs.Laws.Ring.{ring, Z·ring, by-ring}
+use Rattle.arith.specs.Within.{Within}
+use Rattle.arith.specs.Laws.Within.{w-num, w-add, w-sub, w-neg, w-mul}
 use Rattle.rules.specs.Units.{half-turn-in-ticks}
 use Rattle.rules.specs.Scaled.{unit, Pi, product, quotient, summed, alternating, odd-fractions, fractions, arctan, turned-to, cosine, hyperbolic-sine, hyperbolic-cosine, hyperbolic-sine-coefficients, hyperbolic-cosine-coefficients}
 use Rattle.rules.specs.Systems.{Constants}

@@ -7,8 +7,8 @@ use native.Mathlib.Nat.{le-refl, le-trans, mul-le-mul-right}
 use native.Mathlib.Omega.{arith}
 use lib.Dec.{T, leb, ltb, leb→le, ltb→lt, lit<}
 use lib.IntN.{ℤ, pos, _+ℤ_, _-ℤ_, _*ℤ_, natAbs}
-use Rattle.arith.specs.Ring.{ring, Z·ring, by-ring, ev-num}
-use Rattle.arith.specs.Within.{by-abs, w-num, w-add, w-sub, w-mul}
+use Rattle.arith.specs.Laws.Ring.{ring, Z·ring, by-ring, ev-num}
+use Rattle.arith.specs.Laws.Within.{by-abs, w-num, w-add, w-sub, w-mul}
 use Rattle.rules.specs.Scaled.{unit, quotient}
 use Rattle.rules.specs.Systems.{Ellipsoid, GRS-80, Krasovsky, constants}
 use Rattle.fixed.specs.Worked.{S60}

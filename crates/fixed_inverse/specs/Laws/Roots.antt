@@ -5,7 +5,8 @@ use native.Mathlib.Nat.{le-trans, mul-le-mul}
 use native.Mathlib.Omega.{arith}
 use lib.Dec.{T, leb, leb→le, lit<, lit≤}
 use lib.IntN.{ℤ, _+ℤ_, _-ℤ_}
-use Rattle.arith.specs.Within.{Within, w-le}
+use Rattle.arith.specs.Within.{Within}
+use Rattle.arith.specs.Laws.Within.{w-le}
 use Rattle.rules.specs.Scaled.{unit, product}
 use Rattle.fixed.specs.Worked.{S60, mul60}
 use Rattle.fixed.specs.Nearness.{Fixed}

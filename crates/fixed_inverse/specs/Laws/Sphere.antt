@@ -8,9 +8,10 @@ use native.Mathlib.Decide.{decLe}
 use native.Mathlib.Omega.{arith}
 use lib.Dec.{lit<, lit≤}
 use lib.IntN.{ℤ, pos, negsuc, _+ℤ_, _-ℤ_, _*ℤ_}
-use Rattle.arith.specs.Diff.{_⊖_, Z·ℕ}
-use Rattle.arith.specs.Ring.{ring, Z·ring, by-ring, ev-num}
-use Rattle.arith.specs.Within.{Within, w-num, w-add, w-sub, w-mul}
+use Rattle.arith.specs.Laws.Diff.{_⊖_, Z·ℕ}
+use Rattle.arith.specs.Laws.Ring.{ring, Z·ring, by-ring, ev-num}
+use Rattle.arith.specs.Within.{Within}
+use Rattle.arith.specs.Laws.Within.{w-num, w-add, w-sub, w-mul}
 use Rattle.rules.specs.Scaled.{unit, one, product, quotient, sqrt, root}
 use Rattle.rules.specs.Laws.Root.{root-is}
 use Rattle.fixed.specs.Nearness.{Ratio}

@@ -7,9 +7,10 @@ use native.Mathlib.Nat.{le-refl, le-trans, div-add-mod', mod-lt}
 use native.Mathlib.Omega.{arith}
 use lib.Dec.{T, leb, ltb, leb→le, ltb→lt, nltb→le, lit<, lit≤}
 use lib.IntN.{ℤ, pos, negℤ, _+ℤ_, _-ℤ_, _*ℤ_, natAbs}
-use Rattle.arith.specs.Diff.{_⊖_, Z·ℕ}
-use Rattle.arith.specs.Ring.{ring, Z·ring, by-ring, ev-num}
-use Rattle.arith.specs.Within.{Within, by-abs, w-num, w-add, w-sub, w-mul}
+use Rattle.arith.specs.Laws.Diff.{_⊖_, Z·ℕ}
+use Rattle.arith.specs.Laws.Ring.{ring, Z·ring, by-ring, ev-num}
+use Rattle.arith.specs.Within.{Within}
+use Rattle.arith.specs.Laws.Within.{by-abs, w-num, w-add, w-sub, w-mul}
 use Rattle.rules.specs.Units.{half-turn-in-ticks}
 use Rattle.rules.specs.Scaled.{unit, Pi, turned-to}
 use Rattle.fixed.specs.Worked.{S60, mul60}

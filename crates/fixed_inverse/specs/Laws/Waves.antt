@@ -8,9 +8,10 @@ use native.Mathlib.Nat.{le-refl, mul-pos}
 use native.Mathlib.Omega.{arith}
 use lib.Dec.{T, lit<}
 use lib.IntN.{ℤ, pos, _+ℤ_, _-ℤ_, _*ℤ_, natAbs}
-use Rattle.arith.specs.Ring.{ring, Z·ring, by-ring, ev-num}
+use Rattle.arith.specs.Laws.Ring.{ring, Z·ring, by-ring, ev-num}
 use Rattle.arith.specs.Floor.{floor}
-use Rattle.arith.specs.Within.{Within, by-abs, w-num, w-add, w-sub, w-mul}
+use Rattle.arith.specs.Within.{Within}
+use Rattle.arith.specs.Laws.Within.{by-abs, w-num, w-add, w-sub, w-mul}
 use Rattle.rules.specs.Scaled.{unit, product, nested}
 use Rattle.fixed.specs.Worked.{S60}
 use Rattle.fixed.specs.Relations.{Mul60, Alternating60, none, step}

@@ -8,8 +8,9 @@ use lib.IntN.{ℤ, pos, negℤ, _+ℤ_, _-ℤ_}
 use mir.Syntax.{w64}
 use mir.Val.{toZ}
 use mir.ValLaws.{toZ-pos}
-use Rattle.arith.specs.Machine.{Is, v-is, v-sub, need-sub}
-use Rattle.arith.specs.Ring.{ring, Z·ring, by-ring}
+use Rattle.arith.specs.Machine.{Is}
+use Rattle.arith.specs.Laws.Machine.{v-is, v-sub, need-sub}
+use Rattle.arith.specs.Laws.Ring.{ring, Z·ring, by-ring}
 use Rattle.fixed.specs.Worked.{S60}
 use Rattle.fixed.specs.Nearness.{turned}
 use borrow.Author.Needs.{needs}

@@ -10,8 +10,9 @@ use lib.Signed.{_≤ℤ_, _<ℤ_, nonNeg}
 use mir.Syntax.{w64}
 use mir.Val.{Fits, toZ, ofZ}
 use mir.ValLaws.{toZ-pos}
-use Rattle.arith.specs.Diff.{_⊖_, Z·ℕ, lin}
-use Rattle.arith.specs.Machine.{Is, v-is, v-arg, v-num, v-sub, need-sub, lt-yes, lt-no}
+use Rattle.arith.specs.Laws.Diff.{_⊖_, Z·ℕ, lin}
+use Rattle.arith.specs.Machine.{Is}
+use Rattle.arith.specs.Laws.Machine.{v-is, v-arg, v-num, v-sub, need-sub, lt-yes, lt-no}
 use Rattle.fixed.specs.Worked.{S60}
 use Rattle.fixed.specs.Nearness.{turned}
 use Rattle.fixed_units.specs.Worked.{angle-units, convergence-units}

@@ -8,9 +8,9 @@ use native.Mathlib.Omega.{arith}
 use lib.Pow.{pow-pos}
 use lib.IntN.{ℤ, pos, negsuc, negℤ, natAbs, _-ℤ_, _*ℤ_, negℤ-negℤ}
 use lib.Ieee.Nearest.{closest}
-use Rattle.arith.specs.Diff.{Z·ℕ, lin}
-use Rattle.arith.specs.Order.{abs-neg}
-use Rattle.arith.specs.Ring.{ring, Z·ring, by-ring}
+use Rattle.arith.specs.Laws.Diff.{Z·ℕ, lin}
+use Rattle.arith.specs.Laws.Order.{abs-neg}
+use Rattle.arith.specs.Laws.Ring.{ring, Z·ring, by-ring}
 use Rattle.rules.specs.Scaled.{unit}
 use Rattle.rules.specs.Polynomial.{double-unit}
 use Rattle.double.specs.Value.{signed}

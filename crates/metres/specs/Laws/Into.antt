@@ -9,9 +9,9 @@ use lib.Dec.{lit≤, lit<}
 use lib.Pow.{pow-pos}
 use lib.IntN.{ℤ, pos, natAbs, _+ℤ_, _-ℤ_, _*ℤ_}
 use lib.Ieee.{mul, ofInt, fits, round}
-use Rattle.arith.specs.Diff.{Z·ℕ, lin}
-use Rattle.arith.specs.Order.{abs-mul, abs-add, abs-zero-iff}
-use Rattle.arith.specs.Ring.{ring, Z·ring, by-ring}
+use Rattle.arith.specs.Laws.Diff.{Z·ℕ, lin}
+use Rattle.arith.specs.Laws.Order.{abs-mul, abs-add, abs-zero-iff}
+use Rattle.arith.specs.Laws.Ring.{ring, Z·ring, by-ring}
 use Rattle.rules.specs.Scaled as scaled
 use Rattle.rules.specs.Scaled.{unit}
 use Rattle.rules.specs.Polynomial.{double-unit}

@@ -9,8 +9,8 @@ use lib.IntN.{ℤ, pos, natAbs, _-ℤ_}
 use mir.Syntax.{w64}
 use mir.Val.{SFits, toZ}
 use mir.ValLaws.{toZ-pos, toZ-ofZ}
-use Rattle.arith.specs.Order.{abs-sub}
-use Rattle.arith.specs.Within.{by-abs, w-fits}
+use Rattle.arith.specs.Laws.Order.{abs-sub}
+use Rattle.arith.specs.Laws.Within.{by-abs, w-fits}
 use Rattle.polynomial_run.proofs.centred.Statement.{statement}
 use Rattle.polynomial_run.proofs.centred.Tie as tie
 

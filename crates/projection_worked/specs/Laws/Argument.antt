@@ -6,9 +6,9 @@ use native.Mathlib.Nat.{le-trans, le-of-eq, mul-pos, mul-le-mul-right, mul-le-mu
 use native.Mathlib.Omega.{arith}
 use lib.Dec.{T, leb, lit<}
 use lib.IntN.{ℤ, pos, natAbs, _+ℤ_, _-ℤ_, _*ℤ_}
-use Rattle.arith.specs.Ring.{ring, Z·ring, by-ring, ev-num}
+use Rattle.arith.specs.Laws.Ring.{ring, Z·ring, by-ring, ev-num}
 use Rattle.arith.specs.Within.{Within}
-use Rattle.arith.specs.Close.{Close, close-trans, close-sym, close-over, close-same, close-floor, close-le}
+use Rattle.arith.specs.Laws.Close.{Close, close-trans, close-sym, close-over, close-same, close-floor, close-le}
 use Rattle.rules.specs.Scaled.{unit, product}
 use Rattle.rules.specs.Scaled as scaled
 use Rattle.rules.specs.Projection.{two-millionths}

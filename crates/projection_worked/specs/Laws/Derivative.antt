@@ -8,10 +8,10 @@ use native.Mathlib.Omega.{arith}
 use lib.Dec.{lit<, lit≤, leb→le, lt→ltb}
 use lib.IntN.{ℤ, pos, negsuc, negℤ, natAbs, _+ℤ_, _-ℤ_, _*ℤ_, *ℤ-comm}
 use lib.Signed.{_≤ℤ_, _<ℤ_}
-use Rattle.arith.specs.Diff.{_⊖_, Z·ℕ, lin}
-use Rattle.arith.specs.Order.{abs-mul, *ℤ-cancel-≤, *ℤ-mono-left, nn-num}
-use Rattle.arith.specs.Within.{by-abs}
-use Rattle.arith.specs.Close.{Close}
+use Rattle.arith.specs.Laws.Diff.{_⊖_, Z·ℕ, lin}
+use Rattle.arith.specs.Laws.Order.{abs-mul, *ℤ-cancel-≤, *ℤ-mono-left, nn-num}
+use Rattle.arith.specs.Laws.Within.{by-abs}
+use Rattle.arith.specs.Laws.Close.{Close}
 use Rattle.rules.specs.Units.{_°_′_″}
 use Rattle.rules.specs.Systems.{_/10^_, Ellipsoid, constants, a-coefficients}
 use Rattle.rules.specs.Scaled.{unit, product, quotient, polynomial, derivative}

@@ -12,8 +12,8 @@ use Rattle.rules.specs.Scaled as scaled
 use Rattle.rules.specs.Projection.{centred}
 use Rattle.rules.specs.Polynomial.{double-unit}
 use Rattle.rules.specs.Rounding.{Within}
-use Rattle.arith.specs.Within.{by-abs}
-use Rattle.arith.specs.Close.{Close}
+use Rattle.arith.specs.Laws.Within.{by-abs}
+use Rattle.arith.specs.Laws.Close.{Close}
 use Rattle.double.specs.declared.Pair.{Pair}
 use Rattle.double.specs.Bound.{reach}
 use Rattle.double.specs.Value.{value}

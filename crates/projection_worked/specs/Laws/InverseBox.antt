@@ -8,8 +8,8 @@ use native.Mathlib.Omega.{arith}
 use lib.Dec.{T, leb, eqb, leb→le, lit<}
 use lib.IntN.{ℤ, pos, negsuc, natAbs, _-ℤ_, _*ℤ_}
 use lib.Signed.{_≤ℤ_, leZ}
-use Rattle.arith.specs.Diff.{Z·ℕ, lin}
-use Rattle.arith.specs.Order.{abs-mul, abs-nonneg, ≤ℤ-trans, ≤ℤ-antisym, nn-num}
+use Rattle.arith.specs.Laws.Diff.{Z·ℕ, lin}
+use Rattle.arith.specs.Laws.Order.{abs-mul, abs-nonneg, ≤ℤ-trans, ≤ℤ-antisym, nn-num}
 use Rattle.rules.specs.Refusals.{answered}
 use Rattle.rules.specs.Units.{_°_′_″}
 use Rattle.rules.specs.Systems.{System, table, find, system}

@@ -8,10 +8,10 @@ use lib.Dec.{leb→le, lt→ltb}
 use lib.ListN.{length}
 use lib.IntN.{ℤ, pos, negsuc, natAbs, _+ℤ_, _-ℤ_, _*ℤ_}
 use lib.Signed.{_≤ℤ_, _<ℤ_}
-use Rattle.arith.specs.Diff.{Z·ℕ, lin}
-use Rattle.arith.specs.Order.{abs-mul, abs-add, ≤ℤ-trans, ≤ℤ-of-eq, *ℤ-cancel-≤, *ℤ-mono-left, nn-num}
-use Rattle.arith.specs.Ring.{ring, Z·ring, by-ring, ev-num}
-use Rattle.arith.specs.Close.{Close}
+use Rattle.arith.specs.Laws.Diff.{Z·ℕ, lin}
+use Rattle.arith.specs.Laws.Order.{abs-mul, abs-add, ≤ℤ-trans, ≤ℤ-of-eq, *ℤ-cancel-≤, *ℤ-mono-left, nn-num}
+use Rattle.arith.specs.Laws.Ring.{ring, Z·ring, by-ring, ev-num}
+use Rattle.arith.specs.Laws.Close.{Close}
 use Rattle.rules.specs.Scaled.{unit}
 use Rattle.rules.specs.Scaled as scaled
 use Rattle.rules.specs.Polynomial.{double-unit, exact}

@@ -6,9 +6,9 @@ use native.Mathlib.Nat.{le-trans, le-of-eq, mul-le-mul-right, mul-le-mul-left, l
 use native.Mathlib.Omega.{arith}
 use lib.Dec.{T, leb, lit<, lit≤, leb→le}
 use lib.IntN.{ℤ, pos, natAbs, _-ℤ_, _*ℤ_}
-use Rattle.arith.specs.Diff.{Z·ℕ, lin}
-use Rattle.arith.specs.Order.{abs-mul}
-use Rattle.arith.specs.Close.{Close, close-trans, close-sym, close-le}
+use Rattle.arith.specs.Laws.Diff.{Z·ℕ, lin}
+use Rattle.arith.specs.Laws.Order.{abs-mul}
+use Rattle.arith.specs.Laws.Close.{Close, close-trans, close-sym, close-le}
 use Rattle.rules.specs.Systems.{Ellipsoid, constants, b-coefficients}
 use Rattle.rules.specs.Scaled.{unit, product, polynomial}
 use Rattle.rules.specs.Scaled as scaled

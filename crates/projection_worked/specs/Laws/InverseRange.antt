@@ -8,9 +8,9 @@ use lib.Dec.{lit<, lit≤}
 use lib.ListN.{length}
 use lib.IntN.{ℤ, pos, natAbs, _+ℤ_, _-ℤ_, _*ℤ_}
 use lib.Signed.{_≤ℤ_}
-use Rattle.arith.specs.Order.{≤ℤ-trans, nn-num}
-use Rattle.arith.specs.Ring.{ring, Z·ring, by-ring, ev-num}
-use Rattle.arith.specs.Close.{Close}
+use Rattle.arith.specs.Laws.Order.{≤ℤ-trans, nn-num}
+use Rattle.arith.specs.Laws.Ring.{ring, Z·ring, by-ring, ev-num}
+use Rattle.arith.specs.Laws.Close.{Close}
 use Rattle.rules.specs.Systems.{Ellipsoid, GRS-80, Krasovsky, constants, b-coefficients}
 use Rattle.rules.specs.Scaled.{unit}
 use Rattle.rules.specs.Polynomial.{double-unit}

@@ -5,8 +5,9 @@ use native.Mathlib.Nat.{le-trans, le-refl}
 use native.Mathlib.Omega.{arith}
 use lib.Dec.{lit<, lit≤}
 use lib.IntN.{ℤ, pos, natAbs, _-ℤ_, _*ℤ_}
-use Rattle.arith.specs.Diff.{Z·ℕ}
-use Rattle.arith.specs.Floor.{floor, floor-rest-abs}
+use Rattle.arith.specs.Laws.Diff.{Z·ℕ}
+use Rattle.arith.specs.Floor.{floor}
+use Rattle.arith.specs.Laws.Floor.{floor-rest-abs}
 use Rattle.rules.specs.Scaled.{unit, quotient, hyperbolic-cosine}
 use Rattle.rules.specs.Systems.{Ellipsoid, constants}
 use Rattle.fixed.specs.Worked.{S60, mul60}

@@ -8,9 +8,9 @@ use native.Mathlib.Omega.{arith}
 use lib.Dec.{ltb, lit<}
 use lib.IntN.{ℤ, pos, negℤ, natAbs, _-ℤ_, _*ℤ_, negℤ-negℤ}
 use lib.Ieee.{Float, nan, inf, fin, lt, up, down}
-use Rattle.arith.specs.Order.{abs-neg, abs-nonneg}
-use Rattle.arith.specs.Ring.{ring, Z·ring, by-ring, ev-num}
-use Rattle.arith.specs.Close.{Close, close-trans, close-same, close-floor, close-le}
+use Rattle.arith.specs.Laws.Order.{abs-neg, abs-nonneg}
+use Rattle.arith.specs.Laws.Ring.{ring, Z·ring, by-ring, ev-num}
+use Rattle.arith.specs.Laws.Close.{Close, close-trans, close-same, close-floor, close-le}
 use Rattle.rules.specs.Systems.{Ellipsoid, constants, b-coefficients}
 use Rattle.rules.specs.Scaled.{unit, polynomial}
 use Rattle.rules.specs.Scaled as scaled

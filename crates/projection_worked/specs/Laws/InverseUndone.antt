@@ -7,10 +7,10 @@ use native.Mathlib.Nat.{le-trans, le-of-eq, mul-pos, le-of-mul-le-mul-left, le-d
 use native.Mathlib.Omega.{arith}
 use lib.Dec.{lit<, lit≤}
 use lib.IntN.{ℤ, pos, negℤ, natAbs, _-ℤ_, _*ℤ_}
-use Rattle.arith.specs.Diff.{Z·ℕ}
-use Rattle.arith.specs.Ring.{ring, Z·ring, by-ring, ev-num}
-use Rattle.arith.specs.Within.{by-abs, w-sub}
-use Rattle.arith.specs.Close.{Close, close-trans, close-sym, close-neg, close-same, close-floor, close-le}
+use Rattle.arith.specs.Laws.Diff.{Z·ℕ}
+use Rattle.arith.specs.Laws.Ring.{ring, Z·ring, by-ring, ev-num}
+use Rattle.arith.specs.Laws.Within.{by-abs, w-sub}
+use Rattle.arith.specs.Laws.Close.{Close, close-trans, close-sym, close-neg, close-same, close-floor, close-le}
 use Rattle.rules.specs.Units.{millimetres-in-metre}
 use Rattle.rules.specs.Systems.{Ellipsoid, GRS-80, Krasovsky, constants}
 use Rattle.rules.specs.Scaled.{unit, one, quotient}

@@ -6,10 +6,10 @@ use native.Mathlib.Nat.{le-trans, le-of-eq, mul-pos, mul-le-mul-right, mul-le-mu
 use native.Mathlib.Omega.{arith}
 use lib.Dec.{lit<}
 use lib.IntN.{ℤ, pos, natAbs, _+ℤ_, _-ℤ_, _*ℤ_}
-use Rattle.arith.specs.Diff.{_⊖_, Z·ℕ, lin}
-use Rattle.arith.specs.Order.{abs-mul}
-use Rattle.arith.specs.Ring.{ring, Z·ring, by-ring, ev-num}
-use Rattle.arith.specs.Close.{Close, close-trans, close-sym, close-times, close-over, close-same, close-floor, close-le, close-more}
+use Rattle.arith.specs.Laws.Diff.{_⊖_, Z·ℕ, lin}
+use Rattle.arith.specs.Laws.Order.{abs-mul}
+use Rattle.arith.specs.Laws.Ring.{ring, Z·ring, by-ring, ev-num}
+use Rattle.arith.specs.Laws.Close.{Close, close-trans, close-sym, close-times, close-over, close-same, close-floor, close-le, close-more}
 use Rattle.rules.specs.Units.{millimetres-in-metre}
 use Rattle.rules.specs.Scaled.{unit, product}
 use Rattle.rules.specs.Polynomial.{double-unit}

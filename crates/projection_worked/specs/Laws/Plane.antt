@@ -7,10 +7,11 @@ use native.Mathlib.Nat.{le-trans, le-of-eq, mul-le-mul-right, mul-le-mul-left, l
 use native.Mathlib.Omega.{arith}
 use lib.Dec.{T, leb, lit<, lit≤, leb→le}
 use lib.IntN.{ℤ, pos, negℤ, natAbs, _+ℤ_, _-ℤ_, _*ℤ_}
-use Rattle.arith.specs.Diff.{_⊖_, Z·ℕ, lin}
-use Rattle.arith.specs.Order.{abs-mul, abs-sub-comm}
-use Rattle.arith.specs.Floor.{floor, floor-rest-abs}
-use Rattle.arith.specs.Close.{Close}
+use Rattle.arith.specs.Laws.Diff.{_⊖_, Z·ℕ, lin}
+use Rattle.arith.specs.Laws.Order.{abs-mul, abs-sub-comm}
+use Rattle.arith.specs.Floor.{floor}
+use Rattle.arith.specs.Laws.Floor.{floor-rest-abs}
+use Rattle.arith.specs.Laws.Close.{Close}
 use Rattle.rules.specs.Units.{_°_′_″}
 use Rattle.rules.specs.Systems.{_/10^_, Ellipsoid, constants, a-coefficients}
 use Rattle.rules.specs.Scaled.{unit, product, polynomial, derivative}

@@ -8,8 +8,8 @@ use lib.Dec.{lit<, lit≤, le→leb, lt→ltb}
 use lib.ListN.{length}
 use lib.IntN.{ℤ, pos, natAbs, _+ℤ_, _-ℤ_, _*ℤ_, *ℤ-comm}
 use lib.Signed.{_≤ℤ_, _<ℤ_}
-use Rattle.arith.specs.Diff.{_⊖_, Z·ℕ, lin}
-use Rattle.arith.specs.Order.{abs-mul, *ℤ-cancel-≤}
+use Rattle.arith.specs.Laws.Diff.{_⊖_, Z·ℕ, lin}
+use Rattle.arith.specs.Laws.Order.{abs-mul, *ℤ-cancel-≤}
 use Rattle.rules.specs.Systems.{Ellipsoid, GRS-80, Krasovsky, constants, a-coefficients}
 use Rattle.rules.specs.Scaled.{unit, derivative, weighted}
 use Rattle.rules.specs.Polynomial.{double-unit}

@@ -8,12 +8,12 @@ use native.Mathlib.Omega.{arith}
 use lib.Dec.{lit<, lit≤, leb→le}
 use lib.IntN.{ℤ, pos, negsuc, negℤ, natAbs, _+ℤ_, _-ℤ_, _*ℤ_}
 use lib.Signed.{_≤ℤ_}
-use Rattle.arith.specs.Diff.{_⊖_, Z·ℕ, lin}
-use Rattle.arith.specs.Ring.{ring, Z·ring, by-ring, ev-num}
-use Rattle.arith.specs.Order.{abs-mul, abs-add, abs-sub, abs-sub-comm}
+use Rattle.arith.specs.Laws.Diff.{_⊖_, Z·ℕ, lin}
+use Rattle.arith.specs.Laws.Ring.{ring, Z·ring, by-ring, ev-num}
+use Rattle.arith.specs.Laws.Order.{abs-mul, abs-add, abs-sub, abs-sub-comm}
 use Rattle.arith.specs.Floor.{floor}
 use Rattle.arith.specs.Within.{Within}
-use Rattle.arith.specs.Close.{Close, close-trans, close-sym, close-over, close-same, close-floor, close-le, close-neg}
+use Rattle.arith.specs.Laws.Close.{Close, close-trans, close-sym, close-over, close-same, close-floor, close-le, close-neg}
 use Rattle.rules.specs.Scaled.{unit, product, quotient}
 use Rattle.rules.specs.Projection.{two-millionths}
 use Rattle.rules.specs.Polynomial.{double-unit}

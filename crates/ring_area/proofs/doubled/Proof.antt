@@ -8,7 +8,7 @@ use lib.ListN.{length, getD}
 use mir.Facts.{toZ-ofZ}
 use mir.Syntax.{w64}
 use mir.Val.{SFits, toZ, ofZ}
-use Rattle.arith.specs.Within.{by-abs, w-fits}
+use Rattle.arith.specs.Laws.Within.{by-abs, w-fits}
 use Rattle.rules.specs.Rings.{Corner, _to_, origin, area-term}
 use Rattle.ring_corners.specs.Corners.{corner, pairs, Near}
 use Rattle.ring_corners.specs.Laws.Flat.{first-in, half}

@@ -1,6 +1,6 @@
 -- What an edge adds fits. Assumes nothing.
 use mir.Syntax.{w64}
-use Rattle.arith.specs.Machine.{v-arg, v-mul, v-sub, need-mul, need-sub}
+use Rattle.arith.specs.Laws.Machine.{v-arg, v-mul, v-sub, need-mul, need-sub}
 use Rattle.rules.specs.Rings.{area-term}
 use Rattle.ring_area.proofs.term.Statement.{statement}
 use Rattle.ring_area.proofs.term.Tie as tie

@@ -7,9 +7,10 @@ use native.Mathlib.Omega.{arith}
 use lib.IntN.{ℤ, pos, natAbs, negℤ, _+ℤ_, _-ℤ_, _*ℤ_, +ℤ-idr, +ℤ-idl, +ℤ-assoc}
 use lib.ListN.{length, drop, getD, drop-of-length-le}
 use lib.Seq.{drop-cons}
-use Rattle.arith.specs.Order.{abs-add}
-use Rattle.arith.specs.Ring.{ring, Z·ring, by-ring, ev-num}
-use Rattle.arith.specs.Within.{Within, by-abs, w-mul, w-sub}
+use Rattle.arith.specs.Laws.Order.{abs-add}
+use Rattle.arith.specs.Laws.Ring.{ring, Z·ring, by-ring, ev-num}
+use Rattle.arith.specs.Within.{Within}
+use Rattle.arith.specs.Laws.Within.{by-abs, w-mul, w-sub}
 use Rattle.rules.specs.Rings.{Corner, Edge, _to_, origin, onward, line, edges, total, area-term, area2}
 use Rattle.ring_corners.specs.Corners.{corner}
 

@@ -1,6 +1,6 @@
 -- `greater` is the larger of two numbers, as the rules have it. Assumes nothing.
 use mathlib.Core.Path.{sym, _∙_}
-use Rattle.arith.specs.Machine.{v-fit, lt-yes, lt-no}
+use Rattle.arith.specs.Laws.Machine.{v-fit, lt-yes, lt-no}
 use Rattle.ring_checks.specs.Laws.Axis.{larger-yes, larger-no}
 use Rattle.ring_checks.proofs.greater.Statement.{statement}
 use Rattle.ring_checks.proofs.greater.Tie as tie

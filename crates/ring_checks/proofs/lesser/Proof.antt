@@ -1,6 +1,6 @@
 -- `lesser` is the smaller of two numbers, as the rules have it. Assumes nothing.
 use mathlib.Core.Path.{sym, _∙_}
-use Rattle.arith.specs.Machine.{v-fit, lt-yes, lt-no}
+use Rattle.arith.specs.Laws.Machine.{v-fit, lt-yes, lt-no}
 use Rattle.ring_checks.specs.Laws.Axis.{smaller-yes, smaller-no}
 use Rattle.ring_checks.proofs.lesser.Statement.{statement}
 use Rattle.ring_checks.proofs.lesser.Tie as tie

@@ -1,7 +1,7 @@
 -- 7 and 8 by the smallest and the largest number of an axis. Assumes nothing.
 use mathlib.Core.Path.{sym}
 use mir.Syntax.{w64}
-use Rattle.arith.specs.Machine.{v-fit, v-arg, v-num, v-sub, need-sub, lt-yes, lt-no}
+use Rattle.arith.specs.Laws.Machine.{v-fit, v-arg, v-num, v-sub, need-sub, lt-yes, lt-no}
 use Rattle.ring_corners.specs.Laws.Signed.{v-minus}
 use Rattle.ring_checks.specs.Laws.Axis.{reach-low, reach-high, reach-inside, reach-wide, reach-fine}
 use Rattle.ring_checks.proofs.reach.Statement.{statement}

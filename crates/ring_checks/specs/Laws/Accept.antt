@@ -10,7 +10,7 @@ use lib.IntN.{ℤ, pos, natAbs, _-ℤ_}
 use lib.ListN.{length, drop, getD}
 use lib.Signed.{_≤ℤ_}
 use borrow.Author.Tests.{lt-ltb, le-ltb}
-use Rattle.arith.specs.Diff.{_⊖_, Z·abs, lin}
+use Rattle.arith.specs.Laws.Diff.{_⊖_, Z·abs, lin}
 use Rattle.rules.specs.Refusals.{Answer, answered, refused, crossed-at, _>>=_, _>>_, _if_}
 use Rattle.rules.specs.Rings.{Corner, origin}
 use Rattle.rules.specs.RingAnswers.{corners, count-bad, any-bad, span-bad, span, ring-checks}

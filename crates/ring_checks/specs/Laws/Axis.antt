@@ -11,8 +11,8 @@ use lib.IntN.{ℤ, pos, natAbs, negℤ, _-ℤ_}
 use lib.ListN.{length, drop, getD, drop-of-length-le}
 use lib.Seq.{drop-cons}
 use lib.Signed.{ltZ, _≤ℤ_, _<ℤ_, ≤ℤ-refl, clashℤ}
-use Rattle.arith.specs.Diff.{_⊖_, Z·ℕ, Z·abs, lin}
-use Rattle.arith.specs.Order.{≤ℤ-trans, <ℤ→≤ℤ, abs-le-iff}
+use Rattle.arith.specs.Laws.Diff.{_⊖_, Z·ℕ, Z·abs, lin}
+use Rattle.arith.specs.Laws.Order.{≤ℤ-trans, <ℤ→≤ℤ, abs-le-iff}
 use Rattle.rules.specs.Rings.{Corner, origin}
 use Rattle.rules.specs.RingAnswers.{number-bad, corner-bad, any-bad, span-bad, span, larger, smaller, largest, smallest}
 use Rattle.rules.specs.Laws.Checks.{ltZ-true, ltZ-false, or-false, or-true, number-exact, number-met}

@@ -8,9 +8,9 @@ use native.Mathlib.Omega.{arith}
 use lib.Dec.{T, leb·zero, leb·suc-zero, leb·suc-suc}
 use lib.IntN.{ℤ, pos, negsuc, natAbs, negℤ, _+ℤ_, _-ℤ_, _*ℤ_}
 use lib.Signed.{leZ, ltZ, _≤ℤ_, _<ℤ_, leZ-yes, clashℤ, ≤ℤ-refl}
-use Rattle.arith.specs.Diff.{_⊖_, Z·ℕ, Z·abs, lin}
-use Rattle.arith.specs.Order.{≤ℤ-or-<ℤ, ≤ℤ-antisym, <ℤ→≤ℤ, mul-nonneg, mul-pos-pos, sub-nonneg, sub-pos, +ℤ-mono-<}
-use Rattle.arith.specs.Ring.{ring, Z·ring, by-ring}
+use Rattle.arith.specs.Laws.Diff.{_⊖_, Z·ℕ, Z·abs, lin}
+use Rattle.arith.specs.Laws.Order.{≤ℤ-or-<ℤ, ≤ℤ-antisym, <ℤ→≤ℤ, mul-nonneg, mul-pos-pos, sub-nonneg, sub-pos, +ℤ-mono-<}
+use Rattle.arith.specs.Laws.Ring.{ring, Z·ring, by-ring}
 use Rattle.rules.specs.Rings.{Corner, Edge, D, turn, bit, _to_, isZero, between, on}
 use Rattle.rules.specs.Laws.Checks.{ltZ-true, ltZ-false}
 use Rattle.rules.specs.Laws.Sums.{side-back}

@@ -9,8 +9,9 @@ use lib.Signed.{leZ, ltZ, _≤ℤ_, _<ℤ_}
 use mir.Syntax.{Width, w64}
 use mir.Val.{SFits, hbits, toZ, ofZ}
 use mir.Facts.{toZ-ofZ}
-use Rattle.arith.specs.Within.{by-abs, w-fits}
-use Rattle.arith.specs.Machine.{Is, v-fit, lt-yes, lt-no, le-yes, le-no}
+use Rattle.arith.specs.Laws.Within.{by-abs, w-fits}
+use Rattle.arith.specs.Machine.{Is}
+use Rattle.arith.specs.Laws.Machine.{v-fit, lt-yes, lt-no, le-yes, le-no}
 use Rattle.rules.specs.Rings.{Corner}
 use Rattle.ring_corners.specs.Corners.{corner}
 

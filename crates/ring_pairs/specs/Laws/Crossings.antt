@@ -7,8 +7,8 @@ use Prim.Native.Nat.{ℕ, zero, suc}
 use native.Mathlib.Omega.{arith}
 use lib.IntN.{ℤ, pos, _+ℤ_, _-ℤ_, _*ℤ_}
 use lib.Signed.{leZ, ltZ, _≤ℤ_, _<ℤ_, ≤ℤ-refl, <ℤ-≤ℤ-trans}
-use Rattle.arith.specs.Diff.{_⊖_, Z·ℕ, lin}
-use Rattle.arith.specs.Order.{≤ℤ-trans, ≤ℤ-<ℤ-trans, <ℤ-trans, <ℤ→≤ℤ}
+use Rattle.arith.specs.Laws.Diff.{_⊖_, Z·ℕ, lin}
+use Rattle.arith.specs.Laws.Order.{≤ℤ-trans, ≤ℤ-<ℤ-trans, <ℤ-trans, <ℤ→≤ℤ}
 use Rattle.rules.specs.Rings.{Corner, Edge, _to_, D, isZero}
 use Rattle.rules.specs.RingAnswers.{smaller, larger}
 use Rattle.rules.specs.Crossing.{before, overlap, aside, meets, folds}

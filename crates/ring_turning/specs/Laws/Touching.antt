@@ -7,7 +7,7 @@ use native.Mathlib.Omega.{arith}
 use lib.Dec.{T, leb·zero, leb·suc-zero, leb·suc-suc}
 use lib.IntN.{ℤ, pos, negsuc, negℤ, _-ℤ_}
 use lib.Signed.{leZ, ltZ, _≤ℤ_, _<ℤ_, clashℤ}
-use Rattle.arith.specs.Order.{≤ℤ-or-<ℤ, <ℤ→≤ℤ}
+use Rattle.arith.specs.Laws.Order.{≤ℤ-or-<ℤ, <ℤ→≤ℤ}
 use Rattle.rules.specs.Rings.{Corner, Edge, D, turn, _to_, isZero, between, on}
 use Rattle.rules.specs.Laws.Checks.{or-true, or-false}
 use Rattle.rules.specs.Laws.Sums.{side-back}

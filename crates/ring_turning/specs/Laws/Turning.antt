@@ -10,8 +10,8 @@ use lib.ListN.{length, take, getD}
 use lib.Seq.{take-all}
 use mir.Syntax.{w64}
 use mir.Val.{SFits}
-use Rattle.arith.specs.Order.{abs-add}
-use Rattle.arith.specs.Within.{by-abs, w-fits}
+use Rattle.arith.specs.Laws.Order.{abs-add}
+use Rattle.arith.specs.Laws.Within.{by-abs, w-fits}
 use Rattle.rules.specs.Rings.{Corner, Edge, _to_, origin, edges, total, turn, turning-number}
 use Rattle.rules.specs.Laws.Edges.{length-edges, edge-at, edge-last, total-more}
 use Rattle.ring_corners.specs.Corners.{next-of}

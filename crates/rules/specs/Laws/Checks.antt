@@ -10,8 +10,8 @@ use lib.Dec.{T, ltb, ltb→lt, nltb→le, le→leb}
 use lib.IntN.{ℤ, pos, negsuc, _-ℤ_, _*ℤ_, natAbs}
 use lib.ListN.{length}
 use lib.Signed.{ltZ, _≤ℤ_, _<ℤ_, ltZ-yes, ltZ-no, clashℤ, ≤ℤ-refl}
-use Rattle.arith.specs.Diff.{_⊖_, Z·ℕ, lin}
-use Rattle.arith.specs.Order.{≤ℤ-trans, <ℤ→≤ℤ}
+use Rattle.arith.specs.Laws.Diff.{_⊖_, Z·ℕ, lin}
+use Rattle.arith.specs.Laws.Order.{≤ℤ-trans, <ℤ→≤ℤ}
 use Rattle.rules.specs.Units.{_°_′_″}
 use Rattle.rules.specs.Refusals.{Answer, answered, refused, _>>=_}
 use Rattle.rules.specs.Systems.{System, system}

@@ -8,9 +8,9 @@ use native.Mathlib.Omega.{arith}
 use lib.Dec.{T}
 use lib.IntN.{ℤ, pos, negsuc, _+ℤ_, _-ℤ_, _*ℤ_, negℤ}
 use lib.Signed.{_≤ℤ_, _<ℤ_, leZ, ltZ, ltZ-no, ltZ-yes, leZ-yes, clashℤ}
-use Rattle.arith.specs.Diff.{_⊖_, Z·ℕ, lin}
-use Rattle.arith.specs.Ring.{ring, Z·ring, by-ring}
-use Rattle.arith.specs.Order.{≤ℤ-or-<ℤ, ≤ℤ-antisym, ≤ℤ-of-eq, <ℤ→≤ℤ, *ℤ-cancel, sq-nonneg, mul-zero, mul-nonneg, +ℤ-mono}
+use Rattle.arith.specs.Laws.Diff.{_⊖_, Z·ℕ, lin}
+use Rattle.arith.specs.Laws.Ring.{ring, Z·ring, by-ring}
+use Rattle.arith.specs.Laws.Order.{≤ℤ-or-<ℤ, ≤ℤ-antisym, ≤ℤ-of-eq, <ℤ→≤ℤ, *ℤ-cancel, sq-nonneg, mul-zero, mul-nonneg, +ℤ-mono}
 use Rattle.rules.specs.Laws.Signs.{≥0, >0, Nat, nat, Minus, minus, as-nat, as-minus, nat-le}
 use Rattle.rules.specs.Rings.{Corner, Edge, _to_, D, Share, ShareOff, isZero}
 use Rattle.rules.specs.Crossing.{folds}

@@ -12,7 +12,7 @@ use lib.ListN.{length, drop, length-drop}
 use Rattle.rules.specs.Refusals.{Answer, answered, refused, crossed-at, ring-crossed}
 use Rattle.rules.specs.Points.{Point}
 use Rattle.rules.specs.Laws.Checks.{ltb-true, ltb-false}
-use Rattle.arith.specs.Diff.{_⊖_, Z·ℕ}
+use Rattle.arith.specs.Laws.Diff.{_⊖_, Z·ℕ}
 use Rattle.rules.specs.JobFile.{State, Read, text, digits-by, decimal, signed, read, refusal-line, ending, run, job-by, no-field}
 
 -- ---- the records

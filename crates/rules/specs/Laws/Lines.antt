@@ -12,8 +12,8 @@ use native.Mathlib.Omega.{arith}
 use lib.Dec.{T}
 use lib.IntN.{ℤ, pos, _+ℤ_, _-ℤ_, _*ℤ_, negℤ, +ℤ-comm}
 use lib.Signed.{_≤ℤ_, _<ℤ_, ltZ, ltZ-no, ltZ-yes}
-use Rattle.arith.specs.Diff.{_⊖_, Z·ℕ, lin}
-use Rattle.arith.specs.Ring.{ring, Z·ring, by-ring}
+use Rattle.arith.specs.Laws.Diff.{_⊖_, Z·ℕ, lin}
+use Rattle.arith.specs.Laws.Ring.{ring, Z·ring, by-ring}
 use Rattle.rules.specs.Laws.Signs.{≥0, >0, Nat, nat, Minus, minus, as-nat, as-minus, quotient, quotient⁺}
 use Rattle.rules.specs.Rings.{Corner, D, Share}
 

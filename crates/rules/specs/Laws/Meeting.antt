@@ -8,9 +8,9 @@ use native.Mathlib.Omega.{arith}
 use lib.Dec.{T, T-not, not-T, ltb→lt}
 use lib.IntN.{ℤ, pos, negsuc, _+ℤ_, _-ℤ_, _*ℤ_, negℤ}
 use lib.Signed.{_≤ℤ_, _<ℤ_, leZ, ltZ, ltZ-no, ltZ-yes, ≤ℤ-refl}
-use Rattle.arith.specs.Diff.{_⊖_, Z·ℕ, lin}
-use Rattle.arith.specs.Ring.{ring, Z·ring, by-ring}
-use Rattle.arith.specs.Order.{≤ℤ-or-<ℤ, tricho, ≤ℤ-antisym, *ℤ-mono-left, +ℤ-mono, <ℤ→≤ℤ}
+use Rattle.arith.specs.Laws.Diff.{_⊖_, Z·ℕ, lin}
+use Rattle.arith.specs.Laws.Ring.{ring, Z·ring, by-ring}
+use Rattle.arith.specs.Laws.Order.{≤ℤ-or-<ℤ, tricho, ≤ℤ-antisym, *ℤ-mono-left, +ℤ-mono, <ℤ→≤ℤ}
 use Rattle.rules.specs.Laws.Signs.{≥0, >0, Plus, plus, as-plus, nat-le}
 use Rattle.rules.specs.Rings.{Corner, Edge, D, Share}
 use Rattle.rules.specs.Crossing.{before, overlap, aside, meets}

@@ -9,7 +9,7 @@ use native.Mathlib.Omega.{arith}
 use lib.Dec.{T, T-not}
 use lib.IntN.{ℤ, pos, _+ℤ_, _-ℤ_, negℤ, +ℤ-idr}
 use lib.Signed.{_≤ℤ_, _<ℤ_, leZ, ltZ, ltZ-no, ltZ-yes, leZ-yes, <ℤ-≤ℤ-trans, clashℤ}
-use Rattle.arith.specs.Diff.{Z·ℕ, lin}
+use Rattle.arith.specs.Laws.Diff.{Z·ℕ, lin}
 use Rattle.rules.specs.Rings.{Corner, Edge, _to_, onward, line, edges, total, D, turn, turning-number, bit, Share}
 use Rattle.rules.specs.Laws.Sums.{turn-turns}
 use Rattle.rules.specs.Laws.Lines.{agree, net, side-b, share-ab, share-pq, key-3, key-4, key-5, key-6}

@@ -9,8 +9,8 @@ use lib.Dec.{leb·zero, leb·suc-zero, leb·suc-suc}
 use lib.Signed.{leZ, ltZ}
 use lib.ListN.{length, take, drop, getD}
 use lib.Seq.{split-at, take-suc, drop-cons}
-use Rattle.arith.specs.Diff.{Z·ℕ, lin}
-use Rattle.arith.specs.Ring.{ring, Z·ring, by-ring}
+use Rattle.arith.specs.Laws.Diff.{Z·ℕ, lin}
+use Rattle.arith.specs.Laws.Ring.{ring, Z·ring, by-ring}
 use Rattle.rules.specs.Rings.{Corner, Edge, _to_, onward, line, edges, total, area-term, area2, D, turn, turning-number, inner, outer, bit}
 
 -- two lines that meet end to start

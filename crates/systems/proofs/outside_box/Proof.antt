@@ -4,7 +4,7 @@ use mathlib.Core.Path.{_∙_}
 use mir.Syntax.{w64}
 use mir.Facts.{toZ-ofZ}
 use Rattle.systems.specs.Limits.{same-beyond}
-use Rattle.arith.specs.Machine.{v-arg, v-add, v-mul, need-add, need-mul}
+use Rattle.arith.specs.Laws.Machine.{v-arg, v-add, v-mul, need-add, need-mul}
 use Rattle.systems.proofs.outside_box.Statement.{statement}
 use Rattle.systems.proofs.outside_box.Tie as tie
 

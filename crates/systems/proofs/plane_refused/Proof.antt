@@ -6,7 +6,7 @@ use lib.IntN.{ℤ, pos, negℤ, _+ℤ_, _*ℤ_}
 use mir.Syntax.{w64}
 use mir.Val.{SFits, toZ, ofZ}
 use mir.Facts.{toZ-ofZ}
-use Rattle.arith.specs.Machine.{v-in}
+use Rattle.arith.specs.Laws.Machine.{v-in}
 use Rattle.systems.specs.Zones.{beyond, Sized}
 use Rattle.systems.specs.declared.Zone.{Zone}
 use Rattle.systems.specs.Limits.{same-box, plane-limits}

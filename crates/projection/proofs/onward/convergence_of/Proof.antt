@@ -5,8 +5,8 @@ use lib.IntN.{ℤ, natAbs}
 use mir.Syntax.{w64}
 use mir.Val.{toZ, ofZ}
 use mir.Facts.{toZ-ofZ}
-use Rattle.arith.specs.Machine.{v-in}
-use Rattle.arith.specs.Within.{by-abs}
+use Rattle.arith.specs.Laws.Machine.{v-in}
+use Rattle.arith.specs.Laws.Within.{by-abs}
 use Rattle.fixed.specs.Worked.{S60}
 use Rattle.fixed.specs.Nearness.{turned}
 use Rattle.fixed.specs.Laws.Turned.{turned-within}

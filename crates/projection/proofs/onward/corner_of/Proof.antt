@@ -6,8 +6,8 @@ use mir.Syntax.{w64}
 use mir.Val.{toZ, ofZ}
 use mir.Facts.{toZ-ofZ}
 use Rattle.systems.specs.declared.Zone.{Zone}
-use Rattle.arith.specs.Machine.{v-in}
-use Rattle.arith.specs.Within.{by-abs, w-add}
+use Rattle.arith.specs.Laws.Machine.{v-in}
+use Rattle.arith.specs.Laws.Within.{by-abs, w-add}
 use Rattle.fixed.specs.Nearness.{turned}
 use Rattle.fixed.specs.Laws.Turned.{turned-within}
 use Prim.Native.Nat.{ℕ, _≤_}

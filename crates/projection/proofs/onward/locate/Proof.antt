@@ -8,7 +8,7 @@ use lib.Signed.{nonNeg}
 use mir.Syntax.{w64}
 use mir.Val.{Fits, toZ, ofZ}
 use mir.Facts.{toZ-ofZ}
-use Rattle.arith.specs.Machine.{v-in}
+use Rattle.arith.specs.Laws.Machine.{v-in}
 use Rattle.fixed.specs.Laws.Turned.{below-zero}
 use Rattle.fixed_forward.specs.Ellipsoids.{which}
 use Rattle.fixed_forward.specs.Points.{IsMercator}

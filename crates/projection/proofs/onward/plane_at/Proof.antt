@@ -7,7 +7,7 @@ use lib.IntN.{ℤ, pos, natAbs, _+ℤ_, _-ℤ_}
 use mir.Syntax.{w64}
 use mir.Val.{toZ, ofZ}
 use mir.Facts.{toZ-ofZ}
-use Rattle.arith.specs.Machine.{v-in}
+use Rattle.arith.specs.Laws.Machine.{v-in}
 use Rattle.rules.specs.Scaled.{unit}
 use Rattle.rules.specs.Systems.{System, Ellipsoid, constants, a-coefficients}
 use Rattle.double.specs.Value.{value, finite}

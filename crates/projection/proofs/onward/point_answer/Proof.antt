@@ -5,7 +5,7 @@ use lib.IntN.{ℤ, pos, natAbs, _+ℤ_}
 use lib.Ieee.{ofBits}
 use mir.Syntax.{w64}
 use mir.Facts.{toZ-ofZ}
-use Rattle.arith.specs.Machine.{v-in}
+use Rattle.arith.specs.Laws.Machine.{v-in}
 use Rattle.rules.specs.Systems.{Ellipsoid}
 use Rattle.double.specs.Value.{value}
 use Rattle.double.specs.declared.Pair.{Pair}

@@ -6,7 +6,7 @@ use lib.IntN.{ℤ, pos, natAbs, _+ℤ_, _-ℤ_}
 use mir.Syntax.{w64}
 use mir.Val.{toZ, ofZ}
 use mir.Facts.{toZ-ofZ}
-use Rattle.arith.specs.Machine.{v-in}
+use Rattle.arith.specs.Laws.Machine.{v-in}
 use Rattle.rules.specs.Scaled.{unit, derivative}
 use Rattle.rules.specs.Units.{_°_′_″}
 use Rattle.rules.specs.Systems.{System, Ellipsoid, constants, a-coefficients}

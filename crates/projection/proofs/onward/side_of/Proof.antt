@@ -8,8 +8,9 @@ use lib.Signed.{nonNeg}
 use mir.Syntax.{w64}
 use mir.Val.{SFits, Fits, toZ, ofZ}
 use mir.Facts.{toZ-ofZ}
-use Rattle.arith.specs.Within.{by-abs, w-fits}
-use Rattle.arith.specs.Machine.{Is, v-is, v-num, v-sub, need-sub, lt-yes, lt-no}
+use Rattle.arith.specs.Laws.Within.{by-abs, w-fits}
+use Rattle.arith.specs.Machine.{Is}
+use Rattle.arith.specs.Laws.Machine.{v-is, v-num, v-sub, need-sub, lt-yes, lt-no}
 use Rattle.projection_worked.specs.Sides.{minus-size, west-side, east-side, nonneg, minus-nonneg}
 use Rattle.projection.proofs.onward.side_of.Statement.{statement}
 use Rattle.projection.proofs.onward.side_of.Tie as tie

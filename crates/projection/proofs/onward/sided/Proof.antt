@@ -1,6 +1,6 @@
 use lib.IntN.{negℤ, +ℤ-idl}
 use mir.Syntax.{w64}
-use Rattle.arith.specs.Machine.{v-arg, v-num, v-sub, need-sub}
+use Rattle.arith.specs.Laws.Machine.{v-arg, v-num, v-sub, need-sub}
 use Rattle.fixed.specs.Nearness.{turned}
 use Rattle.projection_worked.specs.Undoing.{turned-by}
 use mathlib.Core.Path.{_∙_}

@@ -8,8 +8,8 @@ use lib.Signed.{_≤ℤ_}
 use mir.Syntax.{w64}
 use mir.Val.{toZ, ofZ}
 use mir.Facts.{toZ-ofZ}
-use Rattle.arith.specs.Machine.{v-in}
-use Rattle.arith.specs.Order.{≤ℤ-trans, nn-num}
+use Rattle.arith.specs.Laws.Machine.{v-in}
+use Rattle.arith.specs.Laws.Order.{≤ℤ-trans, nn-num}
 use Rattle.rules.specs.Scaled.{unit}
 use Rattle.double.specs.Value.{value}
 use Rattle.metres.specs.Millimetres.{in-millimetres}

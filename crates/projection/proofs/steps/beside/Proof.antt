@@ -2,7 +2,7 @@ use mathlib.Core.Bool.{Bool, true, false}
 use mathlib.Core.Path.{_≡_, sym, ap, _∙_}
 use lib.IntN.{ℤ, negℤ, _+ℤ_, _-ℤ_}
 use mir.Syntax.{w64}
-use Rattle.arith.specs.Machine.{v-arg, v-add, v-sub, need-add, need-sub}
+use Rattle.arith.specs.Laws.Machine.{v-arg, v-add, v-sub, need-add, need-sub}
 use Rattle.fixed.specs.Nearness.{turned}
 use Rattle.projection.proofs.steps.beside.Statement.{statement}
 use Rattle.projection.proofs.steps.beside.Tie as tie

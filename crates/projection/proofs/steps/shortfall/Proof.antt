@@ -6,7 +6,7 @@ use lib.IntN.{pos, natAbs, _-ℤ_}
 use lib.Signed.{nonNeg}
 use mir.Syntax.{w64}
 use mir.Val.{Fits, toZ, ofZ}
-use Rattle.arith.specs.Machine.{v-arg, v-num, v-sub, need-sub}
+use Rattle.arith.specs.Laws.Machine.{v-arg, v-num, v-sub, need-sub}
 use Rattle.projection.proofs.Parts.{short-of}
 use Rattle.projection.proofs.steps.shortfall.Statement.{statement}
 use Rattle.projection.proofs.steps.shortfall.Tie as tie

@@ -8,7 +8,7 @@ use lib.Ieee.{ofBits}
 use mir.Syntax.{w64}
 use mir.Val.{toZ, ofZ}
 use mir.Facts.{toZ-ofZ}
-use Rattle.arith.specs.Machine.{v-in}
+use Rattle.arith.specs.Laws.Machine.{v-in}
 use Rattle.rules.specs.Systems.{System}
 use Rattle.rules.specs.Points.{Ticks, judged}
 use Rattle.double.specs.Value.{value}

@@ -2,7 +2,7 @@
 use mathlib.Core.Path.{ap, _∙_}
 use lib.IntN.{_+ℤ_}
 use mir.Syntax.{w64}
-use Rattle.arith.specs.Machine.{v-arg, v-add, v-sub, need-add, need-sub}
+use Rattle.arith.specs.Laws.Machine.{v-arg, v-add, v-sub, need-add, need-sub}
 use Rattle.fixed.specs.Nearness.{turned}
 use Rattle.projection_worked.specs.Undoing.{turned-by}
 use Rattle.projection_inverse.proofs.backward.beside_meridian.Statement.{statement}

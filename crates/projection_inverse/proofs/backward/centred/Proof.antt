@@ -3,7 +3,7 @@ use mathlib.Core.Path.{sym, ap, _∙_}
 use Prim.Native.Nat.{ℕ, _*_, _^_}
 use lib.Dec.{lit≤}
 use mir.Syntax.{w64}
-use Rattle.arith.specs.Machine.{v-sub, need-sub}
+use Rattle.arith.specs.Laws.Machine.{v-sub, need-sub}
 use Rattle.systems.specs.Zones.{ellipsoid-of}
 use Rattle.projection_worked.specs.Inverse.{centre30, centred30}
 use Rattle.projection_worked.specs.Undoing.{word}

@@ -8,8 +8,8 @@ use lib.Signed.{nonNeg}
 use mir.Syntax.{w64}
 use mir.Val.{Fits, toZ, ofZ}
 use mir.Facts.{toZ-ofZ}
-use Rattle.arith.specs.Machine.{v-in}
-use Rattle.arith.specs.Order.{≤ℤ-trans, nn-num}
+use Rattle.arith.specs.Laws.Machine.{v-in}
+use Rattle.arith.specs.Laws.Order.{≤ℤ-trans, nn-num}
 use Rattle.rules.specs.Points.{judged}
 use Rattle.fixed.specs.Laws.Turned.{below-zero}
 use Rattle.systems.specs.Zones.{ellipsoid-of}

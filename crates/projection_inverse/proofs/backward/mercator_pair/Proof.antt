@@ -5,7 +5,8 @@ use native.Mathlib.Omega.{arith}
 use lib.IntN.{pos, natAbs}
 use mir.Syntax.{w64}
 use mir.Val.{toZ, ofZ}
-use Rattle.arith.specs.Machine.{Is, v-in}
+use Rattle.arith.specs.Machine.{Is}
+use Rattle.arith.specs.Laws.Machine.{v-in}
 use Rattle.rules.specs.Scaled.{unit}
 use Rattle.rules.specs.Systems.{constants, b-coefficients}
 use Rattle.double.specs.Complex.{horner}

@@ -2,7 +2,7 @@
 use mathlib.Core.Path.{_∙_}
 use lib.IntN.{pos, negℤ, +ℤ-idl}
 use mir.Syntax.{w64}
-use Rattle.arith.specs.Machine.{v-num, v-sub, need-sub}
+use Rattle.arith.specs.Laws.Machine.{v-num, v-sub, need-sub}
 use Rattle.fixed.specs.Nearness.{turned}
 use Rattle.projection_worked.specs.Undoing.{word, turned-by}
 use borrow.Author.Needs.{needs}

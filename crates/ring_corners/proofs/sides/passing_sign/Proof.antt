@@ -1,7 +1,7 @@
 -- Beyond both ends in Y the sign is known, and between them the point is near. Assumes nothing.
 use mathlib.Core.Path.{_≡_, refl, sym, _∙_}
 use mathlib.Core.Logic.{inl, inr, ⊎-elim}
-use Rattle.arith.specs.Order.{<ℤ→≤ℤ, ≤ℤ-or-<ℤ}
+use Rattle.arith.specs.Laws.Order.{<ℤ→≤ℤ, ≤ℤ-or-<ℤ}
 use Rattle.rules.specs.Rings.{Corner, D}
 use Rattle.ring_corners.specs.Corners.{corner, Near}
 use Rattle.ring_corners.specs.Sides.{sign-of}

@@ -1,7 +1,7 @@
 -- Each difference is small, so each product fits. Assumes nothing.
 use mir.Facts.{toZ-ofZ}
 use mir.Syntax.{w64}
-use Rattle.arith.specs.Machine.{v-mul, v-sub, need-mul, need-sub}
+use Rattle.arith.specs.Laws.Machine.{v-mul, v-sub, need-mul, need-sub}
 use Rattle.rules.specs.Rings.{D}
 use Rattle.ring_corners.specs.Laws.Signed.{need-diff, v-diff}
 use Rattle.ring_corners.proofs.sides.side.Statement.{statement}

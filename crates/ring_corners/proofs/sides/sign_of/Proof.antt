@@ -1,6 +1,6 @@
 -- The sign of a number. Assumes nothing.
 use mathlib.Core.Path.{sym}
-use Rattle.arith.specs.Machine.{v-fit, v-num, lt-yes, lt-no}
+use Rattle.arith.specs.Laws.Machine.{v-fit, v-num, lt-yes, lt-no}
 use Rattle.ring_corners.specs.Laws.Sides.{sign-positive, sign-negative, sign-zero}
 use Rattle.ring_corners.proofs.sides.sign_of.Statement.{statement}
 use Rattle.ring_corners.proofs.sides.sign_of.Tie as tie

@@ -1,6 +1,6 @@
 -- By the signs. Assumes nothing.
 use mathlib.Core.Path.{sym}
-use Rattle.arith.specs.Machine.{v-fit, v-num, lt-yes, lt-no}
+use Rattle.arith.specs.Laws.Machine.{v-fit, v-num, lt-yes, lt-no}
 use Rattle.ring_pairs.specs.Laws.Crossings.{aside-positive, not-positive, aside-negative, not-negative, not-aside}
 use Rattle.ring_pairs.proofs.meeting.one_side.Statement.{statement}
 use Rattle.ring_pairs.proofs.meeting.one_side.Tie as tie

@@ -1,7 +1,7 @@
 -- Whether a number lies between two. Assumes nothing.
 use mathlib.Core.Path.{sym}
 use mathlib.Core.Logic.{inl, inr, ⊎-elim}
-use Rattle.arith.specs.Order.{<ℤ→≤ℤ, ≤ℤ-or-<ℤ}
+use Rattle.arith.specs.Laws.Order.{<ℤ→≤ℤ, ≤ℤ-or-<ℤ}
 use Rattle.ring_corners.specs.Laws.Signed.{less, not-less}
 use Rattle.ring_turning.specs.Laws.Touching.{between-yes, between-below, between-above}
 use Rattle.ring_turning.proofs.touching.amid.Statement.{statement}

@@ -1,6 +1,6 @@
 -- A turning number of either sign opens. Assumes nothing.
 use mathlib.Core.Path.{sym, ap}
-use Rattle.arith.specs.Machine.{v-fit, v-num, lt-yes, lt-no}
+use Rattle.arith.specs.Laws.Machine.{v-fit, v-num, lt-yes, lt-no}
 use Rattle.rules.specs.Refusals.{answered}
 use Rattle.rings.specs.Laws.Standing.{open-above, open-below, shut-at-zero}
 use Rattle.rings.proofs.standing.settled.Statement.{statement}

@@ -7,10 +7,11 @@ use native.Mathlib.Nat.{le-trans, le-of-eq, mul-le-mul-right, mul-le-mul-left, a
 use native.Mathlib.Omega.{arith}
 use lib.Dec.{T, leb, leb→le, ltb, ltb→lt}
 use lib.IntN.{ℤ, pos, negℤ, _+ℤ_, _-ℤ_, _*ℤ_, natAbs}
-use Rattle.arith.specs.Diff.{_⊖_, Z·ℕ, lin}
-use Rattle.arith.specs.Ring.{ring, Z·ring, by-ring}
-use Rattle.arith.specs.Order.{abs-add, abs-mul, abs-neg, abs-sub-comm}
-use Rattle.arith.specs.Floor.{floor, floor-rest-abs}
+use Rattle.arith.specs.Laws.Diff.{_⊖_, Z·ℕ, lin}
+use Rattle.arith.specs.Laws.Ring.{ring, Z·ring, by-ring}
+use Rattle.arith.specs.Laws.Order.{abs-add, abs-mul, abs-neg, abs-sub-comm}
+use Rattle.arith.specs.Floor.{floor}
+use Rattle.arith.specs.Laws.Floor.{floor-rest-abs}
 
 pub record Close (v : ℤ) (s : ℕ) (w : ℤ) (t : ℕ) (e d : ℕ) : Type 0 where
   pub gap : d * natAbs (v *ℤ pos t -ℤ w *ℤ pos s) ≤ e * (s * t)
