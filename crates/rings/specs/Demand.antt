@@ -10,9 +10,9 @@ use lib.IntN.{ℤ, _+ℤ_, negℤ}
 use lib.ListN.{length}
 use Rattle.rules.specs.Refusals.{Answer, answered, refused, _>>=_}
 use Rattle.rules.specs.Rings.{Corner, Edge, edges, area2, turning-number, inner, outer, Share}
-use Rattle.rules.specs.RingAnswers.{ring-checks, area-answer, turning-answer}
-use Rattle.rules.specs.Demand.{Demand, demand}
-use Rattle.rules.specs.Laws.RingChecks.{numbers-of}
+use Rattle.rules.specs.RingAnswers.{ring-checks, area-answer, turning-answer, numbers-of}
+use Rattle.rules.specs.Demand.{Demand}
+use Rattle.rules.specs.Laws.Demand.{demand}
 use Rattle.rings.specs.Answers.{whole-paper, AreaCall, TurningCall}
 use Rattle.rings.specs.declared.WholeAnswer.{WholeAnswer}
 use Rattle.rings.specs.Laws.Parts.{part-passes, at-most, inner-within, outer-within, inner-count, outer-count, reverse-within, reverse-count}

@@ -1,13 +1,11 @@
 -- Demand 3 on the rules of rings, as one statement: the cut, the reversal, and the line that meets no edge. 01 names its sums ("What each answer owes the
--- growers") and its line ("Rings", sharing a point). Assumes nothing.
+-- growers") and its line ("Rings", sharing a point). That it holds is `demand` of Laws.Demand. Definitions only.
 use mathlib.Core.Path.{_≡_}
 use mathlib.Core.List.{List, reverse, List·Memᴰ}
 use Prim.Native.Nat.{ℕ, _<_}
-use lib.IntN.{ℤ, _+ℤ_, negℤ}
+use lib.IntN.{_+ℤ_, negℤ}
 use lib.ListN.{length}
 use Rattle.rules.specs.Rings.{Corner, Edge, edges, area2, turning-number, inner, outer, Share}
-use Rattle.rules.specs.Laws.Sums.{turning-cut, area2-cut, turning-reverse, area2-reverse}
-use Rattle.rules.specs.Laws.SameTurning.{same-turning}
 
 pub record Demand : Type 0 where
   -- cut from corner i to corner j (neighbours or not): the whole is the sum of the parts, for every point
@@ -18,12 +16,3 @@ pub record Demand : Type 0 where
   pub reverse-area : (r : List Corner) → area2 (reverse r) ≡ negℤ (area2 r)
   -- two points joined by a line that meets no edge have one turning number
   pub line-turning : (r : List Corner) (p q : Corner) → ((e : Edge) → List·Memᴰ e (edges r) → ¬ Share (e .tail) (e .head) p q) → turning-number r p ≡ turning-number r q
-
-pub demand : Demand
-demand = record {
-  cut-turning = λ r i j h k p. turning-cut i j r p h k;
-  cut-area = λ r i j h k. area2-cut i j r h k;
-  reverse-turning = turning-reverse;
-  reverse-area = area2-reverse;
-  line-turning = same-turning;
-}

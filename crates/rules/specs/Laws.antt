@@ -4,7 +4,7 @@
 -- Root, Nearest: the square root is the whole-number one; products and quotients are floors; the rounding is the nearest, ties to even, and the only one.
 -- OwnAnswers: what the definition itself answers is right. Meridian: d = 0 gives Y = y0. Job: no bound on recursion is felt; the job record by record; decimal digits; signed numbers.
 -- Tried: what the definitions compute to.
--- Signs, Sums, Lines, SameTurning: demand 3. Edges: edge k. Meeting, Folding, Pairs: the crossing test answers by the rule.
+-- Signs, Sums, Lines, SameTurning, Demand: demand 3. Numbers: P1 to P12. Edges: edge k. Meeting, Folding, Pairs: the crossing test answers by the rule.
 pub mod Codes
 pub mod Checks
 pub mod RingChecks
@@ -22,3 +22,5 @@ pub mod Meeting
 pub mod Folding
 pub mod Pairs
 pub mod Tried
+pub mod Demand
+pub mod Numbers

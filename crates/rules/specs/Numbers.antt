@@ -1,14 +1,13 @@
--- 01, Numbers to try: "Marked P are proved of the rules themselves, as one list under a single statement". Assumes nothing.
-use mathlib.Core.Path.{_≡_, refl}
-use mathlib.Core.Bool.{Bool, true, false}
-use mathlib.Core.Option.{Option, some}
+-- 01, Numbers to try: "Marked P are proved of the rules themselves, as one list under a single statement". They are, as `numbers` of Laws.Numbers.
+-- Definitions only.
+use mathlib.Core.Path.{_≡_}
+use mathlib.Core.Bool.{true}
+use mathlib.Core.Option.{some}
 use mathlib.Core.List.{List, [], _∷_, reverse}
 use Prim.Native.Nat.{ℕ}
-use lib.IntN.{ℤ, pos, negℤ}
+use lib.IntN.{pos, negℤ}
 use Rattle.rules.specs.Rings.{Corner, First, edges, area2, turning-number, border, inner, outer}
 use Rattle.rules.specs.Crossing.{crossed}
-use Rattle.rules.specs.Computing.{computing}
-use Rattle.rules.specs.Laws.Pairs.{crossed-some}
 
 abbrev pub at : ℕ → ℕ → Corner
 at x y = record { x = pos x; y = pos y }
@@ -44,24 +43,3 @@ pub record Numbers : Type 0 where
   pub P11 : (area2 (inner 0 2 square) ≡ pos 1_000_000) × (area2 (outer 0 2 square) ≡ pos 1_000_000)
   -- "P12 bow tie: first pair 0 and 2.": by the rule, and by the test
   pub P12 : First bow (record { low = 0; high = 2 }) × (crossed bow ≡ some (record { low = 0; high = 2 }))
-
-bow-crossed : crossed bow ≡ some (record { low = 0; high = 2 })
-unfolding bow computing
-bow-crossed = refl
-
-pub numbers : Numbers
-unfolding square bow computing
-numbers = record {
-  P1 = refl;
-  P2 = refl;
-  P3 = refl;
-  P4 = refl;
-  P5 = refl;
-  P6 = refl;
-  P7 = refl;
-  P8 = refl;
-  P9 = (refl, refl);
-  P10 = (refl, refl);
-  P11 = (refl, refl);
-  P12 = (crossed-some bow (record { low = 0; high = 2 }) bow-crossed, bow-crossed);
-}

@@ -18,6 +18,11 @@ corners [] = answered []
 corners (X ∷ []) = refused corner-count
 corners (X ∷ Y ∷ numbers) = corners numbers >>= λ r. answered (record { x = X; y = Y } ∷ r)
 
+-- the list that a ring comes as
+unfoldable pub numbers-of : List Corner → List ℤ
+numbers-of [] = []
+numbers-of (c ∷ r) = c .x ∷ c .y ∷ numbers-of r
+
 -- "3 to 1,024 corners"
 unfoldable pub count-bad : List Corner → Bool
 count-bad r = ltb (length r) 3 || ltb 1024 (length r)

@@ -12,9 +12,9 @@ use mir.Facts.{toZ-ofZ}
 use mir.Syntax.{w64}
 use mir.Val.{SFits, toZ, ofZ}
 use Rattle.rules.specs.Refusals.{Answer, answered, refused}
-use Rattle.rules.specs.RingAnswers.{corners}
+use Rattle.rules.specs.RingAnswers.{corners, numbers-of}
 use Rattle.rules.specs.Rings.{Corner, origin}
-use Rattle.rules.specs.Laws.RingChecks.{numbers-of, corners-of, even-or-odd}
+use Rattle.rules.specs.Laws.RingChecks.{corners-of, even-or-odd}
 use Rattle.ring_corners.specs.Corners.{pairs, Accepted, next-of}
 
 twice : (i : ℕ) → 2 * suc i ≡ suc (suc (2 * i))

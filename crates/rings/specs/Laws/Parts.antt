@@ -10,9 +10,9 @@ use lib.ListN.{length, take, drop, take-append-drop, length-take, length-drop, l
 use lib.Signed.{_≤ℤ_}
 use Rattle.rules.specs.Refusals.{Answer, answered, refused, crossed-at, _>>=_, _>>_, _if_}
 use Rattle.rules.specs.Rings.{Corner, inner, outer}
-use Rattle.rules.specs.RingAnswers.{corners, count-bad, any-bad, span-bad, span, ring-checks}
+use Rattle.rules.specs.RingAnswers.{corners, count-bad, any-bad, span-bad, span, ring-checks, numbers-of}
 use Rattle.rules.specs.Laws.Checks.{count-exact, span-exact, span-bad-exact}
-use Rattle.rules.specs.Laws.RingChecks.{numbers-of, corners-of, seven}
+use Rattle.rules.specs.Laws.RingChecks.{corners-of, seven}
 
 abbrev Within : List Corner → List Corner → Type 0
 Within s r = (c : Corner) → List·Memᴰ c s → List·Memᴰ c r

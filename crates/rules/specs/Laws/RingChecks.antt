@@ -1,18 +1,18 @@
 -- 01, refusals 6, 7 and 9 of a ring, "given exactly when": a corner list of odd length, a corner number outside ±10^10, and a crossed pair by the rule of Rings.
 -- Assumes nothing.
-use mathlib.Core.Path.{_≡_, refl, sym, _∙_, ap, subst}
-use mathlib.Core.Bool.{Bool, true, false, _||_}
+use mathlib.Core.Path.{_≡_, refl, sym, ap, subst}
+use mathlib.Core.Bool.{false}
 use mathlib.Core.Logic.{_↔_, _⊎_, inl, inr, ⊎-elim}
 use mathlib.Core.Option.{Option, none, some}
 use mathlib.Core.List.{List, [], _∷_, List·Memᴰ, List·Memᴰ·head, List·Memᴰ·tail, List·Memᴰ·not-nil, List·Memᴰ·cases-cons}
-use Prim.Native.Nat.{ℕ, zero, suc, _+_, _^_, _<_, _≤_}
+use Prim.Native.Nat.{ℕ, suc, _+_, _^_, _<_, _≤_}
 use native.Mathlib.Omega.{arith}
-use lib.IntN.{ℤ, pos, natAbs}
+use lib.IntN.{ℤ, natAbs}
 use lib.ListN.{length}
-use Rattle.rules.specs.Refusals.{Answer, answered, refused, crossed-at, Passed, passed, _>>=_}
+use Rattle.rules.specs.Refusals.{Answer, answered, refused, crossed-at, Passed, passed}
 use Rattle.rules.specs.Rings.{Corner, EdgePair, First, Crossing, edge}
 use Rattle.rules.specs.Crossing.{crossed}
-use Rattle.rules.specs.RingAnswers.{corners, number-bad, corner-bad, any-bad, not-crossed}
+use Rattle.rules.specs.RingAnswers.{corners, number-bad, corner-bad, any-bad, not-crossed, numbers-of}
 use Rattle.rules.specs.Laws.Checks.{or-false, number-exact}
 use Rattle.rules.specs.Laws.Pairs.{crossed-some, crossed-none}
 
@@ -60,10 +60,6 @@ seven (a ∷ r) = (
 )
 
 -- ---- 6: "a corner list of odd length"; any other list is the numbers of its corners
-unfoldable pub numbers-of : List Corner → List ℤ
-numbers-of [] = []
-numbers-of (c ∷ r) = c .x ∷ c .y ∷ numbers-of r
-
 pub corners-of : (r : List Corner) → corners (numbers-of r) ≡ answered r
 unfolding corners numbers-of
 corners-of [] = refl
