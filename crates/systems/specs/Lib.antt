@@ -1,4 +1,3 @@
--- The root.
+-- Zones: what the code's row of a system stands for. Laws: what is proved of it; not needed to read the contracts.
 pub mod Zones
-pub mod Rows
-pub mod Limits
+pub mod Laws

@@ -6,7 +6,7 @@ use Rattle.rules.specs.Refusals.{answered}
 use Rattle.rules.specs.Systems.{System, system, find, table}
 use Rattle.rules.specs.Laws.Codes.{unknown}
 use Rattle.systems.specs.Zones.{Found}
-use Rattle.systems.specs.Rows.{row}
+use Rattle.systems.specs.Laws.Rows.{row}
 use Rattle.systems.specs.declared.Zone.{Zone}
 use Rattle.systems.specs.declared.ZoneAnswer.the-variants.{Known}
 use Rattle.systems.proofs.find_zone.Statement.{statement}

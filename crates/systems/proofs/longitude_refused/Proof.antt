@@ -4,7 +4,7 @@ use mathlib.Core.Path.{sym, _∙_}
 use mir.Syntax.{w64}
 use mir.Facts.{toZ-ofZ}
 use Rattle.arith.specs.Laws.Machine.{v-in, v-add, v-sub, need-add, need-sub}
-use Rattle.systems.specs.Limits.{same-beyond, longitude-limits}
+use Rattle.systems.specs.Laws.Limits.{same-beyond, longitude-limits}
 use Rattle.systems.proofs.longitude_refused.Statement.{statement}
 use Rattle.systems.proofs.longitude_refused.Tie as tie
 use Rattle.systems.proofs.longitude_refused.Reads as reads

@@ -3,7 +3,7 @@ use borrow.Author.Needs.{needs}
 use mathlib.Core.Path.{_∙_}
 use mir.Syntax.{w64}
 use mir.Facts.{toZ-ofZ}
-use Rattle.systems.specs.Limits.{same-beyond}
+use Rattle.systems.specs.Laws.Limits.{same-beyond}
 use Rattle.arith.specs.Laws.Machine.{v-arg, v-add, v-mul, need-add, need-mul}
 use Rattle.systems.proofs.outside_box.Statement.{statement}
 use Rattle.systems.proofs.outside_box.Tie as tie

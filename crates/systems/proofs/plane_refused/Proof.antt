@@ -9,7 +9,7 @@ use mir.Facts.{toZ-ofZ}
 use Rattle.arith.specs.Laws.Machine.{v-in}
 use Rattle.systems.specs.Zones.{beyond, Sized}
 use Rattle.systems.specs.declared.Zone.{Zone}
-use Rattle.systems.specs.Limits.{same-box, plane-limits}
+use Rattle.systems.specs.Laws.Limits.{same-box, plane-limits}
 use Rattle.systems.proofs.plane_refused.Statement.{statement}
 use Rattle.systems.proofs.plane_refused.Tie as tie
 
