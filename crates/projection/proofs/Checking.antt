@@ -13,7 +13,7 @@ use Rattle.systems.specs.Zones.{Stands, Sized}
 use Rattle.systems.specs.declared.Zone.{Zone}
 use Rattle.projection.specs.Located.{Taken}
 use Rattle.projection_worked.specs.Worked.{worked-point, worked-forward}
-use Rattle.projection.specs.Checked.{taken}
+use Rattle.projection.specs.Laws.Checked.{taken}
 use Rattle.projection.specs.declared.ForwardAnswer.the-variants.{Point}
 use Rattle.projection_worked.specs.Laws.Finite.{latitude-taken, finite-taken}
 

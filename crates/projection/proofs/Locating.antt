@@ -11,7 +11,7 @@ use Rattle.fixed_bands.specs.Bands.{Latitude}
 use Rattle.fixed_forward.specs.Points.{IsMercator, SphereSizes}
 use Rattle.fixed_forward.specs.Sizes.{north-size, east-size}
 use Rattle.fixed_forward.specs.declared.Mercator.{Mercator}
-use Rattle.projection_worked.specs.Laws.Argument.{limit30}
+use Rattle.projection_worked.specs.Bounds.{limit30}
 use Rattle.projection.specs.Located.{LocatedAt}
 
 pub located : (E : Ellipsoid) (n t : ℕ) (d : ℤ) (w : Bool) (m : Mercator) → Latitude n → natAbs d ≤ 5 ° 30 ′ 0 ″ → w ≡ below-zero d → t ≡ natAbs d → IsMercator E n t m

@@ -11,7 +11,7 @@ use Rattle.systems.specs.declared.Zone.{Zone}
 use Rattle.fixed.specs.Worked.{S60}
 use Rattle.fixed.specs.Laws.Turned.{below-zero}
 use Rattle.fixed_forward.specs.Points.{IsMercator, SphereSizes}
-use Rattle.projection_worked.specs.Laws.Argument.{limit30}
+use Rattle.projection_worked.specs.Bounds.{limit30}
 use Rattle.projection.specs.declared.onward.Located.{Located}
 
 pub record Taken (zone : Zone) (b l : ℤ) : Type 0 where

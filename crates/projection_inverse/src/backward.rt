@@ -18,7 +18,7 @@ ghost use Rattle.double.specs.Value.{value};
 ghost use Rattle.metres.specs.Millimetres.{truncated};
 ghost use Rattle.fixed_inverse.specs.Worked.{latitude-ticks, difference-ticks};
 ghost use Rattle.projection_inverse.specs.Answers.{inverse-paper};
-ghost use Rattle.projection_worked.specs.Laws.InverseRange.{Placed};
+ghost use Rattle.projection_worked.specs.Bounds.{Placed};
 ghost use Rattle.projection_worked.specs.Inverse.{Boxed, InBox, undone30, centred30, mercator-pair, ticks-from, from-plane, in-system};
 
 // How far a number lies from an offset, and whether below it.

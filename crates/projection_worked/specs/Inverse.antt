@@ -1,6 +1,5 @@
--- What the arithmetic gives for the inverse: one value for every input. How near it is to the definition is in Laws.Inverse. Assumes nothing.
-use mathlib.Core.Bool.{Bool, true, false, not}
-use mathlib.Core.Path.{_≡_, refl, ap, _∙_}
+-- What the arithmetic gives for the inverse: one value for every input. How near it is to the definition is in Laws.Inverse. Definitions only.
+use mathlib.Core.Bool.{Bool, true, not}
 use Prim.Native.Nat.{ℕ, _*_, _/_, _^_, _≤_}
 use lib.IntN.{ℤ, pos, natAbs, _+ℤ_, _-ℤ_}
 use Rattle.rules.specs.Refusals.{Answer, answered, refused, crossed-at, _>>=_, _>>_, _if_, plane-outside, step-not-finite}
@@ -73,19 +72,6 @@ from-plane s X Y = step-not-finite if not (both-finite (worked-pair s X Y)) >> j
 -- after refusal 1
 abbrev pub in-system : System → ℤ → ℤ → Answer Ticks
 in-system s X Y = plane-outside if plane-bad s X Y >> from-plane s X Y
-
-pub worked-unknown : (code n : ℕ) (X Y : ℤ) → system code ≡ refused n → worked-inverse code X Y ≡ refused n
-unfolding worked-inverse inverse-checks
-worked-unknown code n X Y e = rw e refl
-
-pub worked-known : (code : ℕ) (s : System) (X Y : ℤ) → system code ≡ answered s → worked-inverse code X Y ≡ in-system s X Y
-unfolding worked-inverse inverse-finite inverse-checks
-worked-known code s X Y e = ap (λ a. (a >>= λ s. plane-outside if plane-bad s X Y >> (step-not-finite if not (finite-in a X Y) >> answered s)) >>= λ s. judged s (worked-ticks s X Y)) e ∙ go (plane-bad s X Y) (both-finite (worked-pair s X Y))
-  where
-    go : (b f : Bool) → ((plane-outside if b >> (step-not-finite if not f >> answered s)) >>= λ s. judged s (worked-ticks s X Y)) ≡ (plane-outside if b >> (step-not-finite if not f >> judged s (worked-ticks s X Y)))
-    go true f = refl
-    go false true = refl
-    go false false = refl
 
 -- how far the box of refusal 4 reaches to a side, in kilometres
 abbrev pub side-km : ℕ

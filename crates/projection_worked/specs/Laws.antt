@@ -1,4 +1,6 @@
--- How near the worked values are to the definition's.
+-- How near the worked values are to the definition's. Right: every answer of the forward and of the inverse is right by the rules.
+-- InverseChecked, Sides, Undoing: laws that the functions' proofs cite.
+-- Examples: the false easting near a half.
 pub mod Examples
 pub mod Millimetres
 pub mod Argument
@@ -19,3 +21,7 @@ pub mod InverseTicks
 pub mod InverseBox
 pub mod Inverse
 pub mod Point
+pub mod Right
+pub mod Sides
+pub mod Undoing
+pub mod InverseChecked

@@ -1,12 +1,9 @@
 -- The worked values of the projection, and how near they are to the rules' definition.
 --   Worked    the forward
 --   Inverse   the inverse
---   Laws      how near they are to the definition's
---   Right     every answer of the forward and of the inverse is right by the rules
---   Sides, Undoing   laws that the functions' proofs cite
+--   Bounds    how large the numbers between the steps are
+--   Laws      how near the worked values are to the definition's; `right` of Laws.Right: every answer of the forward and of the inverse is right by the rules
 pub mod Worked
 pub mod Inverse
+pub mod Bounds
 pub mod Laws
-pub mod Right
-pub mod Sides
-pub mod Undoing

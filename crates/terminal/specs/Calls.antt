@@ -9,7 +9,7 @@ use Rattle.rules.specs.Rings.{Corner}
 use Rattle.rings.specs.Answers.{refusal-of}
 use Rattle.projection.specs.Worked.{worked-forward}
 use Rattle.projection.specs.Inverse.{worked-inverse}
-use Rattle.projection.specs.Right.{right}
+use Rattle.projection.specs.Laws.Right.{right}
 use Rattle.conversion.specs.Plane.{worked-plane}
 use Rattle.conversion.specs.Ring.{worked-conversion}
 use Rattle.terminal.specs.Zero.{zero-answers, forward-answer-numbered, inverse-answer-numbered, plane-numbered, conversion-numbered}

@@ -6,7 +6,7 @@ use Rattle.rules.specs.Points.{latitude-bad, longitude-bad}
 use Rattle.fixed_bands.specs.Bands.{Latitude}
 use Rattle.projection.specs.Answers.{forward-paper}
 use Rattle.projection_worked.specs.Worked.{worked-X, worked-Y, worked-scale, worked-convergence}
-use Rattle.projection.specs.Checked.{latitude-refused, longitude-refused, point-numbers}
+use Rattle.projection.specs.Laws.Checked.{latitude-refused, longitude-refused, point-numbers}
 use Rattle.projection.specs.declared.ForwardAnswer.the-variants.{Point}
 use Rattle.projection.proofs.Checking.{taken-of, answered-of}
 use borrow.Author.Needs.{needs}

@@ -4,7 +4,7 @@ use mir.Facts.{toZ-ofZ}
 use Rattle.systems.specs.Zones.{Found}
 use Rattle.projection.specs.Answers.{plane-of}
 use Rattle.projection_worked.specs.Worked.{worked-forward}
-use Rattle.projection.specs.Checked.{no-system}
+use Rattle.projection.specs.Laws.Checked.{no-system}
 use borrow.Author.Needs.{needs}
 use Rattle.projection.proofs.forward_plane.Statement.{statement}
 use Rattle.projection.proofs.forward_plane.Tie as tie

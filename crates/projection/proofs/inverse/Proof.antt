@@ -3,7 +3,8 @@ use mathlib.Core.Path.{sym, ap₂, _∙_, subst}
 use mir.Facts.{toZ-ofZ}
 use Rattle.systems.specs.Zones.{Found}
 use Rattle.systems.specs.declared.ZoneAnswer.the-variants.{Known}
-use Rattle.projection_worked.specs.Inverse.{in-system, worked-known, worked-unknown}
+use Rattle.projection_worked.specs.Inverse.{in-system}
+use Rattle.projection_worked.specs.Laws.InverseChecked.{worked-known, worked-unknown}
 use borrow.Author.Needs.{needs}
 use Rattle.projection.proofs.inverse.Statement.{statement}
 use Rattle.projection.proofs.inverse.Tie as tie

@@ -1,13 +1,12 @@
 -- z: from whole multiples of 2^-30 m to the doubles' z, against the definition's z over 10^24. Assumes nothing.
-use mathlib.Core.Path.{_≡_, refl, sym, _∙_, ap}
-use mathlib.Core.List.{List, [], _∷_}
+use mathlib.Core.Path.{_≡_, refl}
+use mathlib.Core.List.{[], _∷_}
 use Prim.Native.Nat.{ℕ, _+_, _*_, _^_, _≤_, _<_}
-use native.Mathlib.Nat.{le-trans, le-of-eq, mul-pos, mul-le-mul-right, mul-le-mul-left, le-of-mul-le-mul-left}
+use native.Mathlib.Nat.{le-trans, le-of-eq, mul-le-mul-right, mul-le-mul-left, le-of-mul-le-mul-left}
 use native.Mathlib.Omega.{arith}
 use lib.Dec.{T, leb, lit<}
-use lib.IntN.{ℤ, pos, natAbs, _+ℤ_, _-ℤ_, _*ℤ_}
+use lib.IntN.{ℤ, pos, natAbs, _-ℤ_, _*ℤ_}
 use Rattle.arith.specs.Laws.Ring.{ring, Z·ring, by-ring, ev-num}
-use Rattle.arith.specs.Within.{Within}
 use Rattle.arith.specs.Laws.Close.{Close, close-trans, close-sym, close-over, close-same, close-floor, close-le}
 use Rattle.rules.specs.Scaled.{unit, product}
 use Rattle.rules.specs.Scaled as scaled
@@ -17,14 +16,10 @@ use Rattle.double.specs.declared.Pair.{Pair}
 use Rattle.double.specs.Bound.{Apart}
 use Rattle.double.specs.Laws.Modulus.{modulus-parts}
 use Rattle.double.specs.Value.{value}
-use Rattle.double.specs.Laws.Operations.{double-unit-pos}
 use Rattle.metres.specs.Metres.{argument-of}
 use Rattle.metres.specs.Laws.Into.{per-one, argument-near}
 use Rattle.fixed.specs.Nearness.{NearAt}
-
--- 595 km, the most that a part may be, in units of 2^-30 m
-abbrev pub limit30 : ℕ
-limit30 = 595000 * 2 ^ 30
+use Rattle.projection_worked.specs.Bounds.{limit30}
 
 -- two roundings: a part of z is n over 2^30·500,000 within 10^-15
 pub argument-close : (n : ℤ) → natAbs n ≤ limit30 → Close (value (argument-of n)) double-unit n per-one 1 (10 ^ 15)

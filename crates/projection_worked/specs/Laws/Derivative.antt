@@ -35,11 +35,12 @@ use Rattle.fixed_bands.specs.Bands.{Latitude}
 use Rattle.fixed_forward.specs.Mercator.{north-of, east-of, mercator-at, mercator-near}
 use Rattle.fixed_forward.specs.Sizes.{north-size, east-size, east-narrow}
 use Rattle.projection_worked.specs.Worked.{z-of, slope-pair, first60, slope60, below-nought}
-use Rattle.projection_worked.specs.Laws.Argument.{limit30, argument-close}
+use Rattle.projection_worked.specs.Bounds.{limit30, Tame, Sloped}
+use Rattle.projection_worked.specs.Laws.Argument.{argument-close}
 use Rattle.projection_worked.specs.Laws.Plane.{arguments-inside, derivative-first, derivative-second}
 use Rattle.projection_worked.specs.Laws.West.{keeps-value, flips-value, mirrored}
-use Rattle.projection_worked.specs.Laws.Size.{Tame, tame}
-use Rattle.projection_worked.specs.Laws.Slope.{Sloped, sloped}
+use Rattle.projection_worked.specs.Laws.Size.{tame}
+use Rattle.projection_worked.specs.Laws.Slope.{sloped}
 use Rattle.projection_worked.specs.Laws.InverseTicks.{nought-size}
 use Rattle.projection_worked.specs.Laws.Finite.{slope-tame}
 use Rattle.projection_worked.specs.Laws.SlopeParts.{Parted, parted, first-near, slope-near, first-low-60, first-high-60, slope-high}

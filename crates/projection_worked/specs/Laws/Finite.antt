@@ -18,7 +18,8 @@ use Rattle.fixed_forward.specs.Mercator.{north-of, east-of}
 use Rattle.fixed_forward.specs.Sizes.{north-size, east-size}
 use Rattle.projection_worked.specs.Worked.{z-of, plane-pair, slope-pair, both-finite, steps-finite}
 use Rattle.projection_worked.specs.Laws.Plane.{arguments-inside}
-use Rattle.projection_worked.specs.Laws.Size.{Tame, tame}
+use Rattle.projection_worked.specs.Bounds.{Tame}
+use Rattle.projection_worked.specs.Laws.Size.{tame}
 
 -- a latitude that is taken is a natural number of ticks from 48° to 56°
 pub latitude-taken : (B : ℤ) → latitude-bad B ≡ false → (B ≡ pos (natAbs B)) × Latitude (natAbs B)

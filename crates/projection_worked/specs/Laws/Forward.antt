@@ -30,10 +30,10 @@ use Rattle.fixed_bands.specs.Bands.{Latitude}
 use Rattle.fixed_forward.specs.Mercator.{north-of, east-of, mercator-at, MercatorNear, mercator-near}
 use Rattle.fixed_forward.specs.Sizes.{north-size, east-size}
 use Rattle.projection_worked.specs.Worked.{z-of, plane-pair, scaled-part}
-use Rattle.projection_worked.specs.Laws.Argument.{limit30}
+use Rattle.projection_worked.specs.Bounds.{limit30, Tame}
 use Rattle.projection_worked.specs.Laws.Plane.{arguments-inside, forward-first, forward-second}
 use Rattle.projection_worked.specs.Laws.West.{keeps-value, flips-value, mirrored}
-use Rattle.projection_worked.specs.Laws.Size.{Tame, tame}
+use Rattle.projection_worked.specs.Laws.Size.{tame}
 use Rattle.projection_worked.specs.Laws.Millimetres.{band, scale-of, defined-millimetres}
 
 turned-abs : (s : Bool) (m k : ℕ) → m ≤ k → natAbs (turned s (pos m)) ≤ k

@@ -1,7 +1,7 @@
 -- Where Mercator's pair lies: over the box of refusal 4 it stays in the range of the fixed-point inverse, by the first two terms of either table. Assumes nothing.
 use mathlib.Core.Path.{_≡_, refl, sym, ap, subst}
 use mathlib.Core.List.{List, [], _∷_}
-use Prim.Native.Nat.{ℕ, suc, _+_, _-_, _*_, _^_, _≤_, _<_}
+use Prim.Native.Nat.{ℕ, suc, _+_, _*_, _^_, _≤_}
 use native.Mathlib.Nat.{le-trans, le-of-eq, mul-le-mul-left, le-add-left}
 use native.Mathlib.Omega.{arith}
 use lib.Dec.{lit<, lit≤}
@@ -20,15 +20,14 @@ use Rattle.double.specs.Complex.{horner}
 use Rattle.double.specs.Exact.{weight, doubles}
 use Rattle.double.specs.Bound.{Light, LightTable, Inside, reach}
 use Rattle.double.specs.Laws.Systems.{inverse-light}
-use Rattle.fixed_inverse.specs.Laws.Radius.{x-low, x-high, y-high}
 use Rattle.projection_worked.specs.Inverse.{centre30, centred30, mercator-pair, side-km, Boxed}
-use Rattle.projection_worked.specs.Laws.Size.{Tame, tame}
+use Rattle.projection_worked.specs.Laws.Size.{tame}
 use Rattle.projection_worked.specs.Laws.Plane.{arguments-inside}
 use Rattle.projection_worked.specs.Laws.InverseUndone.{Lengths, lengths, centred-small, to-limit}
 use Rattle.metres.specs.Metres.{arguments-of}
-use Rattle.metres.specs.Millimetres.{truncated}
 use Rattle.metres.specs.Laws.Into.{per-one}
-use Rattle.projection_worked.specs.Laws.Argument.{limit30, argument-close}
+use Rattle.projection_worked.specs.Bounds.{limit30, Placed}
+use Rattle.projection_worked.specs.Laws.Argument.{argument-close}
 use Rattle.projection_worked.specs.Laws.InverseLine.{part-length, first-line, second-line, close-above, close-under, truncated-low, truncated-high, line-low, line-high}
 
 -- ---- the two tables
@@ -76,14 +75,6 @@ side-end : (E : Ellipsoid) → slope E * (side-km * 1000 * 2 ^ 30) ≤ 420748 * 
 unfolding slope
 side-end GRS-80 = lit≤ tt
 side-end Krasovsky = lit≤ tt
-
--- what is known of Mercator's pair: finite parts, in the range of the fixed-point inverse
-pub record Placed (p : Pair) : Type 0 where
-  pub tame : Tame p
-  pub positive : pos 0 ≤ℤ value (p .re)
-  pub low : x-low ≤ truncated 30 (value (p .re))
-  pub high : truncated 30 (value (p .re)) ≤ x-high
-  pub side : truncated 30 (value (p .im)) ≤ y-high
 
 module _ (E : Ellipsoid) {g f : ℕ} (b : Lengths g f) where
   abbrev z-of : Pair

@@ -33,7 +33,8 @@ use Rattle.projection_worked.specs.Inverse.{undone30, centred30, mercato
 use Rattle.projection_worked.specs.Laws.West.{keeps-value, flips-value, mirrored}
 use Rattle.projection_worked.specs.Laws.InverseUndone.{turn-close, near-of, defined-length, undone-near, centred-near, centred-small, lengths}
 use Rattle.projection_worked.specs.Laws.InversePlane.{inverse-first, inverse-second}
-use Rattle.projection_worked.specs.Laws.InverseRange.{Placed, box-placed}
+use Rattle.projection_worked.specs.Bounds.{Placed}
+use Rattle.projection_worked.specs.Laws.InverseRange.{box-placed}
 
 -- ---- a double is its size, turned where it is below 0
 nothing : (a b : ℕ) → 0 * a * b ≡ 0

@@ -18,7 +18,7 @@ use Rattle.fixed.specs.Nearness.{NearAt, turned}
 use Rattle.fixed.specs.Laws.Turned.{below-zero, turned-size}
 use Rattle.fixed.specs.Laws.Bounds.{w-same}
 use Rattle.projection_worked.specs.Inverse.{undone30, centre30, centred30, side-km, Boxed}
-use Rattle.projection_worked.specs.Laws.Argument.{limit30}
+use Rattle.projection_worked.specs.Bounds.{limit30}
 
 -- a length near the definition's, from its distance in units of 2^-30 m
 pub near-of : {n w : ℤ} {k : ℕ} → Close n (2 ^ 30) w unit k (2 ^ 30) → NearAt (2 ^ 30) n w (k * unit)

@@ -29,7 +29,8 @@ use Rattle.double.specs.Laws.Systems.{small-reach, forward-defined, derivative-
 use Rattle.metres.specs.Metres.{argument-of, arguments-of}
 use Rattle.metres.specs.Laws.Into.{argument-number, argument-small}
 use Rattle.fixed.specs.Nearness.{NearAt}
-use Rattle.projection_worked.specs.Laws.Argument.{limit30, z-close, apart}
+use Rattle.projection_worked.specs.Bounds.{limit30}
+use Rattle.projection_worked.specs.Laws.Argument.{z-close, apart}
 
 -- ---- the definition's parts of z are at most 1.2 too
 length-small : {n w : ℤ} (k : ℕ) → NearAt (2 ^ 30) n w (k * unit) → natAbs n ≤ limit30 → k ≤ 1000 → natAbs w ≤ 595001 * unit

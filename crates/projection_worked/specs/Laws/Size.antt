@@ -1,25 +1,26 @@
 -- How large a polynomial's answer in doubles is: below 8,000,001 m, from what its table weighs. Assumes nothing.
-use mathlib.Core.Path.{_≡_, refl, sym, _∙_, ap, subst}
+use mathlib.Core.Path.{_≡_, sym, _∙_, ap, subst}
 use mathlib.Core.List.{List, [], _∷_}
-use Prim.Native.Nat.{ℕ, suc, _+_, _*_, _^_, _≤_, _<_}
-use native.Mathlib.Nat.{le-trans, le-of-eq, mul-pos, mul-le-mul-right, mul-le-mul-left, le-of-mul-le-mul-right, pow-suc}
+use Prim.Native.Nat.{ℕ, _+_, _*_, _^_, _≤_}
+use native.Mathlib.Nat.{le-trans, le-of-eq, mul-pos, mul-le-mul-right, le-of-mul-le-mul-right, pow-suc}
 use native.Mathlib.Omega.{arith}
 use lib.Dec.{lit<}
 use lib.ListN.{length}
-use lib.IntN.{ℤ, pos, natAbs, _+ℤ_, _-ℤ_, _*ℤ_}
+use lib.IntN.{ℤ, pos, natAbs, _-ℤ_, _*ℤ_}
 use Rattle.arith.specs.Laws.Diff.{_⊖_, Z·ℕ, lin}
 use Rattle.arith.specs.Laws.Order.{abs-mul}
 use Rattle.rules.specs.Scaled.{unit}
 use Rattle.rules.specs.Polynomial.{double-unit, exact}
 use Rattle.double.specs.declared.Pair.{Pair}
 use Rattle.double.specs.Value.{value}
-use Rattle.double.specs.Complex.{Numbers, values, horner}
-use Rattle.double.specs.Exact.{weight, at, doubles}
-use Rattle.double.specs.Bound.{Light, LightTable, Inside, Tenth, Answered}
+use Rattle.double.specs.Complex.{values, horner}
+use Rattle.double.specs.Exact.{doubles}
+use Rattle.double.specs.Bound.{Light, LightTable, Inside, Tenth}
 use Rattle.double.specs.Laws.Bound.{at-exact}
 use Rattle.double.specs.Laws.Horner.{at-size, double-unit-pow-pos}
 use Rattle.double.specs.Laws.Modulus.{modulus-first, modulus-second}
 use Rattle.double.specs.Laws.Promise.{tenth}
+use Rattle.projection_worked.specs.Bounds.{Tame}
 
 near-abs : (a b : ℤ) → natAbs a ≤ natAbs (a -ℤ b) + natAbs b
 near-abs a b = lin (a ∷ b ∷ []) λ u v ea eb. simp (Z·ℕ, ea, eb) (omega arith)
@@ -53,12 +54,6 @@ module _ (c : ℤ) (cs : List ℤ) (z : Pair) (m : ℕ) (l : Light unit c cs m 8
   second-size =
       part-size (length cs) (value (answer .im)) (exact (c ∷ cs) (values z) .second) (tenth unit c cs z m l i .second)
       (subst (λ p. natAbs (p .second) ≤ 8000000 * (unit * double-unit ^ length cs)) (at-exact (c ∷ cs) (values z)) (le-trans (modulus-second (at-size double-unit (c ∷ cs) (values z) m (i .modulus))) (l .weighs)))
-
--- what is known of a polynomial's answer: finite parts, of at most 8,000,001 m
-pub record Tame (p : Pair) : Type 0 where
-  pub numbers : Numbers p
-  pub first : natAbs (value (p .re)) ≤ 8000001 * double-unit
-  pub second : natAbs (value (p .im)) ≤ 8000001 * double-unit
 
 pub tame : (cs : List ℤ) (z : Pair) (m : ℕ) → LightTable unit cs m 8000000 → Inside z m → Tame (horner (doubles unit cs) z)
 tame [] z m l i = absurd l

@@ -1,8 +1,8 @@
 -- The derivative in doubles: its first part lies between 499,000 and 501,000 m and its second below 135 m, for every point that is taken. Assumes nothing.
-use mathlib.Core.Path.{_≡_, refl, sym, _∙_, ap, subst₂}
+use mathlib.Core.Path.{_≡_, sym, _∙_, ap, subst₂}
 use mathlib.Core.List.{List, [], _∷_}
 use Prim.Native.Nat.{ℕ, suc, _+_, _*_, _^_, _≤_, _<_}
-use native.Mathlib.Nat.{le-trans, le-of-eq, mul-le-mul, mul-le-mul-right, mul-le-mul-left, le-of-mul-le-mul-right, zero-mul}
+use native.Mathlib.Nat.{le-trans, le-of-eq, mul-le-mul-right, mul-le-mul-left, le-of-mul-le-mul-right, zero-mul}
 use native.Mathlib.Omega.{arith}
 use lib.Dec.{lit<, lit≤, le→leb, lt→ltb}
 use lib.ListN.{length}
@@ -15,12 +15,12 @@ use Rattle.rules.specs.Scaled.{unit, derivative, weighted}
 use Rattle.rules.specs.Polynomial.{double-unit}
 use Rattle.double.specs.declared.Pair.{Pair}
 use Rattle.double.specs.Value.{value}
-use Rattle.double.specs.Complex.{values, horner}
+use Rattle.double.specs.Complex.{horner}
 use Rattle.double.specs.Exact.{weight, doubles}
 use Rattle.double.specs.Bound.{Light, Inside, reach}
-use Rattle.double.specs.Laws.Operations.{double-unit-pos}
 use Rattle.double.specs.Laws.Systems.{derivative-light}
 use Rattle.projection_worked.specs.Laws.InverseLine.{first-line, second-line}
+use Rattle.projection_worked.specs.Bounds.{Sloped}
 
 -- a part a over u of an answer that is c + x·c1 but for 11 m
 size-above : (a w : ℤ) (k p q : ℕ) → natAbs (a -ℤ w) ≤ k → pos q ≤ℤ w → p + k ≤ q → pos p ≤ℤ a
@@ -111,11 +111,6 @@ module _ (C : ℕ) (c1 : ℤ) (cs : List ℤ) (z : Pair) (l : Light unit (pos C)
       more k = omega arith
 
 -- ---- both ellipsoids
-pub record Sloped (H : Pair) : Type 0 where
-  pub first-low : pos (499000 * double-unit) ≤ℤ value (H .re)
-  pub first-high : natAbs (value (H .re)) ≤ 501000 * double-unit
-  pub second-high : natAbs (value (H .im)) ≤ 137 * double-unit
-
 pub sloped : (E : Ellipsoid) (z : Pair) → Inside z reach → 10 * natAbs (value (z .re)) ≤ 12 * double-unit → 100 * natAbs (value (z .im)) ≤ 98 * double-unit
     → Sloped (horner (doubles unit (derivative (a-coefficients (constants E)))) z)
 unfolding a-coefficients constants derivative weighted weight reach double-unit

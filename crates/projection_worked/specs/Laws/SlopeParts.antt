@@ -29,7 +29,7 @@ use Rattle.fixed.specs.Laws.Words.{mul60-is, quot60-is}
 use Rattle.fixed.specs.Laws.Turned.{turned-twice}
 use Rattle.projection_worked.specs.Worked.{first41, second41, grain, first60, slope60}
 use Rattle.projection_worked.specs.Laws.Argument.{part-close}
-use Rattle.projection_worked.specs.Laws.Slope.{Sloped}
+use Rattle.projection_worked.specs.Bounds.{Sloped}
 
 apart-by : (x y k : ℕ) → x ≤ y → y ≤ x + k → natAbs (pos x -ℤ pos y) ≤ k
 apart-by x y k h g = simp Z·ℕ (omega arith)

@@ -21,9 +21,9 @@ use Rattle.fixed_forward.specs.Ellipsoids.{which}
 use Rattle.systems.specs.declared.Zone.{Zone}
 use Rattle.projection_worked.specs.Worked.{z-of, plane-pair, scaled-part}
 use Rattle.projection_worked.specs.Laws.Finite.{latitude-taken, plane-tame}
-use Rattle.projection_worked.specs.Laws.Size.{Tame}
+use Rattle.projection_worked.specs.Bounds.{Tame}
 use Rattle.projection.specs.Located.{LocatedAt}
-use Rattle.projection.specs.Stood.{X-stands, Y-stands}
+use Rattle.projection.specs.Laws.Stood.{X-stands, Y-stands}
 use Rattle.projection.specs.declared.PlaneAnswer.the-variants.{At}
 use borrow.Author.Needs.{needs}
 use Rattle.projection.proofs.onward.plane_at.Statement.{statement}

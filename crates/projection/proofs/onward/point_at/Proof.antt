@@ -25,10 +25,9 @@ use Rattle.systems.specs.declared.Zone.{Zone}
 use Rattle.projection_worked.specs.Worked.{z-of, plane-pair, slope-pair, scaled-part, scale-from, convergence-from, worked-X, worked-Y, worked-scale, worked-convergence}
 use Rattle.projection_worked.specs.Laws.Finite.{latitude-taken, plane-tame, slope-tame}
 use Rattle.projection_worked.specs.Laws.Derivative.{point-sloped}
-use Rattle.projection_worked.specs.Laws.Size.{Tame}
-use Rattle.projection_worked.specs.Laws.Slope.{Sloped}
+use Rattle.projection_worked.specs.Bounds.{Tame, Sloped}
 use Rattle.projection.specs.Located.{LocatedAt}
-use Rattle.projection.specs.Stood.{X-stands, Y-stands, scale-stands, convergence-stands}
+use Rattle.projection.specs.Laws.Stood.{X-stands, Y-stands, scale-stands, convergence-stands}
 use Rattle.projection.specs.declared.ForwardAnswer.the-variants.{Point}
 use Rattle.projection.proofs.Checking.{four}
 use borrow.Author.Needs.{needs}

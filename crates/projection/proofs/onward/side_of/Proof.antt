@@ -11,7 +11,7 @@ use mir.Facts.{toZ-ofZ}
 use Rattle.arith.specs.Laws.Within.{by-abs, w-fits}
 use Rattle.arith.specs.Machine.{Is}
 use Rattle.arith.specs.Laws.Machine.{v-is, v-num, v-sub, need-sub, lt-yes, lt-no}
-use Rattle.projection_worked.specs.Sides.{minus-size, west-side, east-side, nonneg, minus-nonneg}
+use Rattle.projection_worked.specs.Laws.Sides.{minus-size, west-side, east-side, nonneg, minus-nonneg}
 use Rattle.projection.proofs.onward.side_of.Statement.{statement}
 use Rattle.projection.proofs.onward.side_of.Tie as tie
 use Rattle.projection.proofs.onward.side_of.Reads as reads

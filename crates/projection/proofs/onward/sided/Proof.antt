@@ -2,7 +2,7 @@ use lib.IntN.{negℤ, +ℤ-idl}
 use mir.Syntax.{w64}
 use Rattle.arith.specs.Laws.Machine.{v-arg, v-num, v-sub, need-sub}
 use Rattle.fixed.specs.Nearness.{turned}
-use Rattle.projection_worked.specs.Undoing.{turned-by}
+use Rattle.projection_worked.specs.Laws.Undoing.{turned-by}
 use mathlib.Core.Path.{_∙_}
 use Rattle.projection.proofs.onward.sided.Statement.{statement}
 use Rattle.projection.proofs.onward.sided.Tie as tie

@@ -12,7 +12,7 @@ use Rattle.double.specs.Complex.{horner}
 use Rattle.double.specs.Exact.{doubles}
 use Rattle.metres.specs.Metres.{arguments-of}
 use Rattle.fixed_forward.specs.Ellipsoids.{which}
-use Rattle.projection_worked.specs.Laws.Argument.{limit30}
+use Rattle.projection_worked.specs.Bounds.{limit30}
 use borrow.Author.Needs.{needs}
 use Rattle.projection.proofs.steps.slope_pair.Statement.{statement}
 use Rattle.projection.proofs.steps.slope_pair.Tie as tie

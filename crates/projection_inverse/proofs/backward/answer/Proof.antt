@@ -21,7 +21,7 @@ use Rattle.fixed_inverse.specs.Worked.{latitude-ticks, difference-ticks}
 use Rattle.projection_worked.specs.Worked.{below-nought}
 use Rattle.projection_worked.specs.Inverse.{latitude-from, difference-from, ticks-from}
 use Rattle.projection_worked.specs.Laws.InverseTicks.{turned-abs}
-use Rattle.projection_worked.specs.Undoing.{word}
+use Rattle.projection_worked.specs.Laws.Undoing.{word}
 use borrow.Author.Needs.{needs}
 use Rattle.projection_inverse.proofs.backward.answer.Statement.{statement}
 use Rattle.projection_inverse.proofs.backward.answer.Tie as tie

@@ -4,7 +4,7 @@ use lib.IntN.{_+ℤ_}
 use mir.Syntax.{w64}
 use Rattle.arith.specs.Laws.Machine.{v-arg, v-add, v-sub, need-add, need-sub}
 use Rattle.fixed.specs.Nearness.{turned}
-use Rattle.projection_worked.specs.Undoing.{turned-by}
+use Rattle.projection_worked.specs.Laws.Undoing.{turned-by}
 use Rattle.projection_inverse.proofs.backward.beside_meridian.Statement.{statement}
 use Rattle.projection_inverse.proofs.backward.beside_meridian.Tie as tie
 

@@ -6,7 +6,7 @@ use mir.Syntax.{w64}
 use Rattle.arith.specs.Laws.Machine.{v-sub, need-sub}
 use Rattle.systems.specs.Zones.{ellipsoid-of}
 use Rattle.projection_worked.specs.Inverse.{centre30, centred30}
-use Rattle.projection_worked.specs.Undoing.{word}
+use Rattle.projection_worked.specs.Laws.Undoing.{word}
 use borrow.Author.Needs.{needs}
 use Rattle.projection_inverse.proofs.backward.centred.Statement.{statement}
 use Rattle.projection_inverse.proofs.backward.centred.Tie as tie

@@ -16,8 +16,9 @@ use Rattle.systems.specs.Zones.{ellipsoid-of}
 use Rattle.systems.specs.declared.Zone.{Zone}
 use Rattle.projection_worked.specs.Worked.{both-finite}
 use Rattle.projection_worked.specs.Inverse.{Boxed, mercator-pair, ticks-from}
-use Rattle.projection_worked.specs.Laws.InverseRange.{Placed, box-placed}
-use Rattle.projection_worked.specs.Sides.{nonneg}
+use Rattle.projection_worked.specs.Bounds.{Placed}
+use Rattle.projection_worked.specs.Laws.InverseRange.{box-placed}
+use Rattle.projection_worked.specs.Laws.Sides.{nonneg}
 use Rattle.projection_inverse.proofs.Standing.{row-pair, finite-answer, not-finite}
 use borrow.Author.Needs.{needs}
 use Rattle.projection_inverse.proofs.backward.from_plane.Statement.{statement}

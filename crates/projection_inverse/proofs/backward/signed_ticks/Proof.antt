@@ -4,7 +4,7 @@ use lib.IntN.{pos, negℤ, +ℤ-idl}
 use mir.Syntax.{w64}
 use Rattle.arith.specs.Laws.Machine.{v-num, v-sub, need-sub}
 use Rattle.fixed.specs.Nearness.{turned}
-use Rattle.projection_worked.specs.Undoing.{word, turned-by}
+use Rattle.projection_worked.specs.Laws.Undoing.{word, turned-by}
 use borrow.Author.Needs.{needs}
 use Rattle.projection_inverse.proofs.backward.signed_ticks.Statement.{statement}
 use Rattle.projection_inverse.proofs.backward.signed_ticks.Tie as tie

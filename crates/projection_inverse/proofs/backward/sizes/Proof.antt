@@ -14,7 +14,7 @@ use Rattle.systems.specs.Zones.{ellipsoid-of}
 use Rattle.fixed_inverse.specs.Worked.{ellipsoid, latitude-ticks, difference-ticks}
 use Rattle.fixed_inverse.specs.Laws.Radius.{x-low, x-high, y-high}
 use Rattle.projection_worked.specs.Laws.InverseSizes.{latitude-small, difference-small}
-use Rattle.projection_worked.specs.Undoing.{same-ellipsoid}
+use Rattle.projection_worked.specs.Laws.Undoing.{same-ellipsoid}
 use Rattle.projection_inverse.proofs.backward.sizes.Statement.{statement}
 use Rattle.projection_inverse.proofs.backward.sizes.Tie as tie
 
