@@ -1,21 +1,16 @@
 -- Demand 3 as a statement about the calls: what `area2` and `turning_number` answer for an accepted ring, for its two parts when it is cut from corner i to
 -- corner j, and for the ring reversed; and for two points joined by a line that meets no edge. A part, and the ring reversed, is the list of the numbers of its
 -- corners, X and Y in turn (`numbers-of`), and is accepted too, which the statement includes: each answer is a number and no refusal. `AreaCall` and
--- `TurningCall` are what the two calls ensure. Assumes nothing.
-use mathlib.Core.Path.{_≡_, sym, _∙_, ap, ap₂}
+-- `TurningCall` are what the two calls ensure. That it holds is `calls` of Laws.Demand. Definitions only.
+use mathlib.Core.Path.{_≡_}
 use mathlib.Core.List.{List, reverse, List·Memᴰ}
 use Prim.Native.Nat.{ℕ, _<_, _≤_}
-use native.Mathlib.Omega.{arith}
 use lib.IntN.{ℤ, _+ℤ_, negℤ}
 use lib.ListN.{length}
-use Rattle.rules.specs.Refusals.{Answer, answered, refused, _>>=_}
-use Rattle.rules.specs.Rings.{Corner, Edge, edges, area2, turning-number, inner, outer, Share}
-use Rattle.rules.specs.RingAnswers.{ring-checks, area-answer, turning-answer, numbers-of}
-use Rattle.rules.specs.Demand.{Demand}
-use Rattle.rules.specs.Laws.Demand.{demand}
-use Rattle.rings.specs.Answers.{whole-paper, AreaCall, TurningCall}
+use Rattle.rules.specs.Rings.{Corner, Edge, edges, inner, outer, Share}
+use Rattle.rules.specs.RingAnswers.{numbers-of}
+use Rattle.rings.specs.Answers.{AreaCall, TurningCall}
 use Rattle.rings.specs.declared.WholeAnswer.{WholeAnswer}
-use Rattle.rings.specs.Laws.Parts.{part-passes, at-most, inner-within, outer-within, inner-count, outer-count, reverse-within, reverse-count}
 
 -- the calls answer numbers, and the first is the sum of the others
 pub record Sum (w u v : WholeAnswer) : Type 0 where
@@ -45,62 +40,3 @@ pub record Calls (l : List ℤ) (r : List Corner) : Type 0 where
   -- two points joined by a line that meets no edge
   pub line-turning : (p q : Corner) → ((e : Edge) → List·Memᴰ e (edges r) → ¬ Share (e .tail) (e .head) p q) → (w v : WholeAnswer)
       → TurningCall l p w → TurningCall l q v → w ≡ v
-
--- an answer that is the paper's number is that number
-whole-of : (w : WholeAnswer) (z : ℤ) → whole-paper w ≡ answered z → w ≡ WholeAnswer.Is z
-whole-of (WholeAnswer.Is y) z e = cc e
-whole-of (WholeAnswer.Refused n) z e = absurd (let x : _≡_ {A = ℕ} 0 1 = cc e in omega arith)
-
-turning-is : (l : List ℤ) (r : List Corner) → ring-checks l ≡ answered r → (p : Corner) (w : WholeAnswer) → TurningCall l p w → w ≡ WholeAnswer.Is (turning-number r p)
-unfolding turning-answer
-turning-is l r e p w h = whole-of w (turning-number r p) (h ∙ ap (λ (a : Answer (List Corner)). a >>= λ t. answered (turning-number t p)) e)
-
-area-is : (l : List ℤ) (r : List Corner) → ring-checks l ≡ answered r → (w : WholeAnswer) → AreaCall l w → w ≡ WholeAnswer.Is (area2 r)
-unfolding area-answer
-area-is l r e w h = whole-of w (area2 r) (h ∙ ap (λ (a : Answer (List Corner)). a >>= λ t. answered (area2 t)) e)
-
--- for every list that the checks accept
-pub calls : (l : List ℤ) (r : List Corner) → ring-checks l ≡ answered r → Calls l r
-calls l r e = record {
-  cut-turning = λ i j h k m n p w u v a b c. record {
-    whole = turning-number r p;
-    part = turning-number (inner i j r) p;
-    other = turning-number (outer i j r) p;
-    whole-is = turning-is l r e p w a;
-    part-is = turning-is (numbers-of (inner i j r)) (inner i j r) (inside i j m) p u b;
-    other-is = turning-is (numbers-of (outer i j r)) (outer i j r) (outside i j h n) p v c;
-    sum = demand .cut-turning r i j h k p;
-  };
-  cut-area = λ i j h k m n w u v a b c. record {
-    whole = area2 r;
-    part = area2 (inner i j r);
-    other = area2 (outer i j r);
-    whole-is = area-is l r e w a;
-    part-is = area-is (numbers-of (inner i j r)) (inner i j r) (inside i j m) u b;
-    other-is = area-is (numbers-of (outer i j r)) (outer i j r) (outside i j h n) v c;
-    sum = demand .cut-area r i j h k;
-  };
-  reverse-turning = λ p w v a b. record {
-    whole = turning-number r p;
-    whole-is = turning-is l r e p w a;
-    reversed-is = turning-is (numbers-of (reverse r)) (reverse r) back p v b ∙ ap WholeAnswer.Is (demand .reverse-turning r p);
-  };
-  reverse-area = λ w v a b. record {
-    whole = area2 r;
-    whole-is = area-is l r e w a;
-    reversed-is = area-is (numbers-of (reverse r)) (reverse r) back v b ∙ ap WholeAnswer.Is (demand .reverse-area r);
-  };
-  line-turning = λ p q h w v a b. turning-is l r e p w a ∙ ap WholeAnswer.Is (demand .line-turning r p q h) ∙ sym (turning-is l r e q v b);
-}
-  where
-    few : (3 ≤ length r) × (length r ≤ 1024)
-    few = at-most l r e
-
-    inside : (i j : ℕ) → 3 ≤ length (inner i j r) → ring-checks (numbers-of (inner i j r)) ≡ answered (inner i j r)
-    inside i j m = part-passes l r (inner i j r) e (inner-within i j r) m (omega (arith, few, inner-count i j r))
-
-    outside : (i j : ℕ) → i < j → 3 ≤ length (outer i j r) → ring-checks (numbers-of (outer i j r)) ≡ answered (outer i j r)
-    outside i j h n = part-passes l r (outer i j r) e (outer-within i j r) n (omega (arith, few, outer-count i j r h))
-
-    back : ring-checks (numbers-of (reverse r)) ≡ answered (reverse r)
-    back = part-passes l r (reverse r) e (reverse-within r) (omega (arith, few, reverse-count r)) (omega (arith, few, reverse-count r))
