@@ -1,6 +1,6 @@
 use mathlib.Core.Path.{sym, subst, _∙_}
 use Rattle.systems.specs.Zones.{Found}
-use Rattle.conversion.specs.Codes.{no-source, no-target, both}
+use Rattle.conversion.specs.Laws.Codes.{no-source, no-target, both}
 use borrow.Author.Needs.{needs}
 use Rattle.conversion.proofs.check_codes.Statement.{statement}
 use Rattle.conversion.proofs.check_codes.Tie as tie

@@ -2,7 +2,7 @@ use mathlib.Core.Path.{_≡_, sym, ap, ap₂, _∙_}
 use mir.Facts.{toZ-ofZ}
 use Rattle.projection.specs.Answers.{inverse-paper}
 use Rattle.projection.specs.Inverse.{worked-inverse}
-use Rattle.conversion.specs.Plane.{same-taken, inverse-refused, inverse-answered}
+use Rattle.conversion.specs.Laws.Plane.{same-taken, inverse-refused, inverse-answered}
 use borrow.Author.Needs.{needs}
 use Rattle.conversion.proofs.convert.Statement.{statement}
 use Rattle.conversion.proofs.convert.Tie as tie

@@ -1,4 +1,4 @@
--- The loop keeps what Converting of specs/Ring says. Assumes nothing.
+-- The loop keeps what Converting of specs/Laws/Ring says. Assumes nothing.
 use mathlib.Core.Path.{_≡_, sym, ap, _∙_}
 use Prim.Native.Nat.{ℕ, _+_, _*_, _-_, _<_, _≤_}
 use native.Mathlib.Omega.{arith}
@@ -8,7 +8,7 @@ use Rattle.rings.specs.Corners.{pairs}
 use Rattle.rings.specs.Laws.Flat.{half}
 use Rattle.projection.specs.Answers.{plane-paper}
 use Rattle.conversion.specs.Plane.{carried}
-use Rattle.conversion.specs.Ring.{Converting, start-converting, convert-more, convert-refused, convert-end}
+use Rattle.conversion.specs.Laws.Ring.{Converting, start-converting, convert-more, convert-refused, convert-end}
 use borrow.Author.Needs.{needs}
 use Rattle.conversion.proofs.convert_corners.Statement.{statement}
 use Rattle.conversion.proofs.convert_corners.Tie as tie

@@ -1,6 +1,6 @@
 use mathlib.Core.Path.{_≡_, sym, ap, _∙_}
 use Rattle.conversion.specs.Codes.{verdict-paper}
-use Rattle.conversion.specs.Ring.{ring-codes-refused, ring-codes-passed, on-refusal, on-same}
+use Rattle.conversion.specs.Laws.Ring.{ring-codes-refused, ring-codes-passed, on-refusal, on-same}
 use borrow.Author.Needs.{needs}
 use Rattle.conversion.proofs.convert_ring.Statement.{statement}
 use Rattle.conversion.proofs.convert_ring.Tie as tie

@@ -1,4 +1,4 @@
--- The loop keeps what Copying of specs/Ring says. Assumes nothing.
+-- The loop keeps what Copying of specs/Laws/Ring says. Assumes nothing.
 use mathlib.Core.Path.{_≡_, sym, ap, _∙_}
 use Prim.Native.Nat.{ℕ, _+_, _*_, _-_, _<_, _≤_}
 use native.Mathlib.Omega.{arith}
@@ -7,7 +7,7 @@ use lib.IntN.{pos}
 use mir.Facts.{toZ-ofZ}
 use mir.Syntax.{w64}
 use mir.Val.{SFits}
-use Rattle.conversion.specs.Ring.{Copying, start-copying, copy-more, copy-end}
+use Rattle.conversion.specs.Laws.Ring.{Copying, start-copying, copy-more, copy-end}
 use borrow.Author.Needs.{needs}
 use Rattle.conversion.proofs.copy_numbers.Statement.{statement}
 use Rattle.conversion.proofs.copy_numbers.Tie as tie

@@ -8,7 +8,7 @@ use Rattle.rules.specs.Refusals.{answered, refused}
 use Rattle.rules.specs.RingAnswers.{ring-checks}
 use Rattle.rings.specs.Corners.{pairs, Accepted}
 use Rattle.rings.specs.Laws.Accept.{accepted, not-accepted}
-use Rattle.conversion.specs.Ring.{outcome-refused, outcome-answered, ring-refused, output-short, all-corners, on-refusal, on-success}
+use Rattle.conversion.specs.Laws.Ring.{outcome-refused, outcome-answered, ring-refused, output-short, all-corners, on-refusal, on-success}
 use borrow.Author.Needs.{needs}
 use Rattle.conversion.proofs.move_ring.Statement.{statement}
 use Rattle.conversion.proofs.move_ring.Tie as tie

@@ -1,7 +1,8 @@
 use mathlib.Core.Path.{_≡_, sym, ap, ap₂, _∙_}
 use mir.Facts.{toZ-ofZ}
 use Rattle.conversion.specs.Codes.{verdict-paper}
-use Rattle.conversion.specs.Plane.{codes-refused, codes-passed, carried}
+use Rattle.conversion.specs.Plane.{carried}
+use Rattle.conversion.specs.Laws.Plane.{codes-refused, codes-passed}
 use borrow.Author.Needs.{needs}
 use Rattle.conversion.proofs.plane_to_plane.Statement.{statement}
 use Rattle.conversion.proofs.plane_to_plane.Tie as tie

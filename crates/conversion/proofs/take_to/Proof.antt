@@ -1,7 +1,7 @@
 use Rattle.projection.specs.Answers.{plane-of}
 use Rattle.projection.specs.Worked.{worked-forward}
 use mathlib.Core.Path.{_≡_, sym, ap, ap₂, _∙_}
-use Rattle.conversion.specs.Plane.{same-codes, other-codes}
+use Rattle.conversion.specs.Laws.Plane.{same-codes, other-codes}
 use lib.IntN.{ℤ}
 use mir.Facts.{toZ-ofZ}
 use Rattle.rules.specs.Refusals.{Answer, answered}
