@@ -1,6 +1,3 @@
--- What the terminal's contracts and proofs cite. Lent: what is owed for an answer. Edges: the edge numbers of refusal 9 fit what C lends.
--- Zero: a call that returns 0 has answered; Calls: so of the four calls of the projection.
+-- What the terminal's contracts cite. Lent: what is owed for an answer. Laws: what is proved of it; not needed to read the contracts.
 pub mod Lent
-pub mod Edges
-pub mod Zero
-pub mod Calls
+pub mod Laws

@@ -4,7 +4,8 @@ use mir.Facts.{toZ-ofZ}
 use borrow.Author.Needs.{needs}
 use Rattle.rules.specs.RingAnswers.{area-answer}
 use Rattle.rings.specs.Answers.{whole-paper}
-use Rattle.terminal.specs.Lent.{on-refusal, on-answer, whole-number}
+use Rattle.terminal.specs.Lent.{whole-number}
+use Rattle.terminal.specs.Laws.Lent.{on-refusal, on-answer}
 use Rattle.terminal.proofs.misgwalor_area2.Statement.{statement}
 use Rattle.terminal.proofs.misgwalor_area2.Tie as tie
 

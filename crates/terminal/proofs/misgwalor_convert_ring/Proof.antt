@@ -7,7 +7,7 @@ use Rattle.rules.specs.Refusals.{Answer}
 use Rattle.rings.specs.Answers.{refusal-of}
 use Rattle.conversion.specs.Codes.{verdict-paper}
 use Rattle.conversion.specs.Ring.{worked-conversion}
-use Rattle.terminal.specs.Lent.{verdict-number}
+use Rattle.terminal.specs.Laws.Lent.{verdict-number}
 use Rattle.terminal.proofs.misgwalor_convert_ring.Statement.{statement}
 use Rattle.terminal.proofs.misgwalor_convert_ring.Tie as tie
 

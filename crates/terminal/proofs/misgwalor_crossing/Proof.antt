@@ -4,8 +4,8 @@ use borrow.Author.Needs.{needs}
 use Rattle.rules.specs.Refusals.{crossed-at}
 use Rattle.rules.specs.RingAnswers.{crossing-answer}
 use Rattle.rings.specs.Answers.{crossing-paper}
-use Rattle.terminal.specs.Lent.{on-edges, two-same}
-use Rattle.terminal.specs.Edges.{EdgeNumbers, crossing-edges, small-fits, small-is}
+use Rattle.terminal.specs.Laws.Lent.{on-edges, two-same}
+use Rattle.terminal.specs.Laws.Edges.{EdgeNumbers, crossing-edges, small-fits, small-is}
 use Rattle.terminal.proofs.misgwalor_crossing.Statement.{statement}
 use Rattle.terminal.proofs.misgwalor_crossing.Tie as tie
 

@@ -4,7 +4,8 @@ use mir.Facts.{toZ-ofZ}
 use borrow.Author.Needs.{needs}
 use Rattle.projection.specs.Answers.{forward-paper}
 use Rattle.projection.specs.Worked.{worked-forward}
-use Rattle.terminal.specs.Lent.{on-refusal, on-answer, four-same, point-numbers}
+use Rattle.terminal.specs.Lent.{point-numbers}
+use Rattle.terminal.specs.Laws.Lent.{on-refusal, on-answer, four-same}
 use Rattle.terminal.proofs.misgwalor_forward.Statement.{statement}
 use Rattle.terminal.proofs.misgwalor_forward.Tie as tie
 

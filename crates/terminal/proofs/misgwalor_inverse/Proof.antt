@@ -4,7 +4,8 @@ use mir.Facts.{toZ-ofZ}
 use borrow.Author.Needs.{needs}
 use Rattle.projection.specs.Answers.{inverse-paper}
 use Rattle.projection.specs.Inverse.{worked-inverse}
-use Rattle.terminal.specs.Lent.{on-refusal, on-answer, two-same, tick-numbers}
+use Rattle.terminal.specs.Lent.{tick-numbers}
+use Rattle.terminal.specs.Laws.Lent.{on-refusal, on-answer, two-same}
 use Rattle.terminal.proofs.misgwalor_inverse.Statement.{statement}
 use Rattle.terminal.proofs.misgwalor_inverse.Tie as tie
 

@@ -6,8 +6,9 @@ use Rattle.rules.specs.Refusals.{crossed-at}
 use Rattle.rules.specs.RingAnswers.{nozzle-answer}
 use Rattle.rings.specs.Answers.{nozzle-paper}
 use Rattle.rings.specs.Corners.{corner}
-use Rattle.terminal.specs.Lent.{on-both, two-same, nozzle-number}
-use Rattle.terminal.specs.Edges.{EdgeNumbers, nozzle-edges, small-fits, small-is}
+use Rattle.terminal.specs.Lent.{nozzle-number}
+use Rattle.terminal.specs.Laws.Lent.{on-both, two-same}
+use Rattle.terminal.specs.Laws.Edges.{EdgeNumbers, nozzle-edges, small-fits, small-is}
 use Rattle.terminal.proofs.misgwalor_nozzle.Statement.{statement}
 use Rattle.terminal.proofs.misgwalor_nozzle.Tie as tie
 

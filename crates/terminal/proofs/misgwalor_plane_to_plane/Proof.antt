@@ -4,7 +4,8 @@ use mir.Facts.{toZ-ofZ}
 use borrow.Author.Needs.{needs}
 use Rattle.projection.specs.Answers.{plane-paper}
 use Rattle.conversion.specs.Plane.{worked-plane}
-use Rattle.terminal.specs.Lent.{on-refusal, on-answer, two-same, plane-numbers}
+use Rattle.terminal.specs.Lent.{plane-numbers}
+use Rattle.terminal.specs.Laws.Lent.{on-refusal, on-answer, two-same}
 use Rattle.terminal.proofs.misgwalor_plane_to_plane.Statement.{statement}
 use Rattle.terminal.proofs.misgwalor_plane_to_plane.Tie as tie
 

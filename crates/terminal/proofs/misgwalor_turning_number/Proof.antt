@@ -5,7 +5,8 @@ use borrow.Author.Needs.{needs}
 use Rattle.rules.specs.RingAnswers.{turning-answer}
 use Rattle.rings.specs.Answers.{whole-paper}
 use Rattle.rings.specs.Corners.{corner}
-use Rattle.terminal.specs.Lent.{on-refusal, on-answer, whole-number}
+use Rattle.terminal.specs.Lent.{whole-number}
+use Rattle.terminal.specs.Laws.Lent.{on-refusal, on-answer}
 use Rattle.terminal.proofs.misgwalor_turning_number.Statement.{statement}
 use Rattle.terminal.proofs.misgwalor_turning_number.Tie as tie
 

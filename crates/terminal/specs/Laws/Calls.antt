@@ -12,7 +12,7 @@ use Rattle.projection.specs.Inverse.{worked-inverse}
 use Rattle.projection.specs.Laws.Right.{right}
 use Rattle.conversion.specs.Plane.{worked-plane}
 use Rattle.conversion.specs.Ring.{worked-conversion}
-use Rattle.terminal.specs.Zero.{zero-answers, forward-answer-numbered, inverse-answer-numbered, plane-numbered, conversion-numbered}
+use Rattle.terminal.specs.Laws.Zero.{zero-answers, forward-answer-numbered, inverse-answer-numbered, plane-numbered, conversion-numbered}
 
 pub forward-zero : (code : ℕ) (B L : ℤ) → refusal-of (worked-forward code B L) ≡ 0 → (p : Point) × (worked-forward code B L ≡ answered p)
 forward-zero code B L = zero-answers (worked-forward code B L) (forward-answer-numbered right code B L)

@@ -1,0 +1,9 @@
+-- What is proved of the calls; not needed to read the contracts.
+--   Lent       a call's promises by the answer that the library gave
+--   Edges      the edge numbers of refusal 9 fit what C lends
+--   Zero       a call that returns 0 has answered
+--   Calls      so of the four calls of the projection
+pub mod Lent
+pub mod Edges
+pub mod Zero
+pub mod Calls
