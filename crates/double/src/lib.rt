@@ -1,5 +1,5 @@
 // Complex numbers as pairs of doubles, by value, and a polynomial with real coefficients at one. Each contract says what the parts are
-// in doubles; how far these are from the exact polynomial is in proofs/.
+// in doubles; how far these are from the exact polynomial is in specs/Laws.
 ghost use mathlib.Core.Path.{_≡_};
 ghost use Rattle.double.specs.Value.{finite};
 ghost use Rattle.double.specs.Complex.{sum, product, step, horner, finite-pair};

@@ -1,4 +1,4 @@
--- Signed integers of the code, beside Machine of arith: a negative literal, a difference that is small though its parts are not, a result read back. Assumes nothing.
+-- Signed integers of the code, beside Laws.Machine of arith: a negative literal, a difference that is small though its parts are not, a result read back. Assumes nothing.
 use mathlib.Core.Path.{_≡_, refl, sym, _∙_, ap, ap₂, subst₂}
 use mathlib.Core.Bool.{true, false}
 use Prim.Native.Nat.{ℕ, suc, _^_, _≤_}
