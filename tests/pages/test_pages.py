@@ -48,6 +48,7 @@ class Pages(unittest.TestCase):
 
     def test_names_are_declared(self):
         names = {name for path in sources("antt") for name in DECLARED.findall(path.read_text())}
+        names |= set(re.findall(r"lib[\w+-]+", (ROOT / "bench" / "run").read_text()))
         hyphened = re.compile(r"[A-Za-z0-9]+(?:-[A-Za-z0-9]+)+")
         missing = [(page.name, word) for page in PAGES for word in words(page) if hyphened.fullmatch(word) and word not in names]
         self.assertEqual(missing, [])
