@@ -21,6 +21,9 @@ pub record Nozzles : Type 0 where
   pub crossed : N.nozzle-answer (flat bow) (at 900 500) ≡ Answer.crossed-at 0 2
   pub crossed-turning : N.turning-answer (flat bow) (at 900 500) ≡ answered (negℤ (pos 1))
   pub crossed-area : N.area-answer (flat bow) ≡ answered (pos 0)
+  -- "and D > 0", "and D < 0": a point on an edge gets nothing from that edge
+  pub on-rising-edge : N.turning-answer (flat square) (at 500 0) ≡ answered (pos 0)
+  pub on-falling-edge : N.turning-answer (flat square) (at 500 1000) ≡ answered (pos 1)
   -- "Forgetting that the last edge neighbours the first."
   pub last-and-first : N.crossing-answer (flat square) ≡ answered passed
   -- "an edge of no length also makes a pair with the edge after it": edge 0 with edge 1

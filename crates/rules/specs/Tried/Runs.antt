@@ -47,6 +47,8 @@ pub record Runs : Type 0 where
   pub far-north-refused : N.area-answer (far 10_000_000_001) ≡ refused 7
   pub far-south-taken : taken (N.area-answer (map negℤ (far 10_000_000_000))) ≡ answered 0
   pub far-south-refused : N.area-answer (map negℤ (far 10_000_000_001)) ≡ refused 7
+  -- "For rings: 6, 7, 8, 9": a ring that is too far and too large
+  pub seven-before-eight : N.area-answer (pos 10_000_000_001 ∷ pos 0 ∷ pos 0 ∷ pos 0 ∷ pos 0 ∷ pos 5 ∷ []) ≡ refused 7
   -- 5: "the two codes have different ellipsoids"; 10: "a step of the projection isn't finite"
   pub ellipsoids : P.plane 7 8 (pos 0) (pos 0) ≡ refused 5
   pub not-finite : P.forward-checks false 1 (pos (52 ° 0 ′ 0 ″)) (pos (19 ° 0 ′ 0 ″)) ≡ refused 10

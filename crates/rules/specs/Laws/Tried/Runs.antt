@@ -24,6 +24,7 @@ runs = record {
   far-north-refused = refl;
   far-south-taken = refl;
   far-south-refused = refl;
+  seven-before-eight = refl;
   ellipsoids = refl;
   not-finite = refl;
   first-1 = refl;
