@@ -28,8 +28,9 @@ enum-known-judged-3 c = search needs
 returns : tie.Need-returns
 returns c =
     let s = c .before .before .before .before .before .before .args .self in
-    accepts s (unmapped _ (s .corners) (c .before .before .before .before .before .before .good .0 .1 .1 .0 .1 .0 .1)) (c .before .before .before .judge .result) (c .before .before .before .before .counted .result) (c .before .before .before .before .counted .ensures) (c .before .before .before .judge .ensures) _ _ (c .before .judged .given .1)
-    (toZ-ofZ (record { sfits = c .known-told .given .0 .1 }))
+    let taken = accepts s (unmapped _ (s .corners) (c .before .before .before .before .before .before .good .0 .1 .1 .0 .1 .0 .1)) (c .before .before .before .judge .result) (c .before .before .before .before .counted .result) (c .before .before .before .before .counted .ensures) (c .before .before .before .judge .ensures) _ _ (c .before .judged .given .1)
+    (toZ-ofZ (record { sfits = c .known-told .given .0 .1 })) in
+    record { says = taken .says; leaves = taken .leaves }
 
 returns-2 : tie.Need-returns-2
 returns-2 c =
