@@ -21,7 +21,7 @@ B_KRASOVSKY = "5760000 500199.20821246 63.87801231 -0.82014111 -0.13123362 0.001
 TEN = "0.1 -0.2 0.3 -0.4 0.5 -0.6 82857.1 -48739.2 28670.3 -16864.4"
 
 POINTS = 600
-SCALE = 2**40  # errors are counted in 2^-40 m
+FIRST_POWER = 40  # the exact first part is told in multiples of 2^-40 m
 
 
 def table(text):
@@ -43,6 +43,11 @@ TABLES = [
 ]
 
 
+def second_power(name):
+    """What the exact second part is told in: a derivative's is small, and the doubles come nearer to it."""
+    return 50 if name.startswith("derivative") else 40
+
+
 def exact(coefficients, x, y):
     """The polynomial at x + y i, in rationals, by powers."""
     re, im = Fraction(0), Fraction(0)
@@ -62,11 +67,16 @@ def horner(coefficients, x, y):
     return re, im
 
 
-def whole(value):
-    """In multiples of 2^-40, toward zero."""
-    n = abs(Fraction(value)) * SCALE
+def whole(value, power):
+    """In multiples of 2^-power, toward zero."""
+    n = abs(Fraction(value)) * 2**power
     n = n.numerator // n.denominator
     return -n if value < 0 else n
+
+
+def told(error, power):
+    """Multiples of 2^-power m in 10^-15 m, gone down."""
+    return error * 10**15 // 2**power
 
 
 def points(name):
@@ -81,20 +91,28 @@ def argument(n):
     return n * 2.0**-30 * 0.000002
 
 
+def measure(name, coefficients, records, number):
+    """Adds the records of a table, and answers the largest error of each part: as the program tells it, and in metres."""
+    powers = FIRST_POWER, second_power(name)
+    largest, in_metres = [0, 0], [Fraction(0), Fraction(0)]
+    for north, east in points(name):
+        x, y = argument(north), argument(east)
+        value, answer = exact(coefficients, Fraction(x), Fraction(y)), horner(coefficients, x, y)
+        wholes = [whole(v, power) for v, power in zip(value, powers)]
+        for part, power in enumerate(powers):
+            largest[part] = max(largest[part], told(abs(whole(answer[part], power) - wholes[part]), power))
+            in_metres[part] = max(in_metres[part], abs(Fraction(answer[part]) - value[part]))
+        records += struct.pack("<5Q", number, north + 2**50, east + 2**50, *(n + 2**63 for n in wholes))
+    return largest, in_metres
+
+
 def main(write):
     records, lines = bytearray(), []
     for number, (name, coefficients) in enumerate(TABLES):
-        largest, in_metres = 0, Fraction(0)
-        for north, east in points(name):
-            x, y = argument(north), argument(east)
-            value, answer = exact(coefficients, Fraction(x), Fraction(y)), horner(coefficients, x, y)
-            for v, a in zip(value, answer):
-                largest = max(largest, abs(whole(a) - whole(v)))
-                in_metres = max(in_metres, abs(Fraction(a) - v))
-            records += struct.pack("<5Q", number, north + 2**50, east + 2**50, *(whole(v) + 2**63 for v in value))
-        lines.append(f"{name} points {POINTS} largest {largest}\n")
+        largest, in_metres = measure(name, coefficients, records, number)
+        lines.append(f"{name} points {POINTS} first {largest[0]} second {largest[1]} of 10^-15 m\n")
         if not write:
-            print(f"{name:22} {POINTS} points, largest error {float(in_metres):.3e} m")
+            print(f"{name:22} {POINTS} points, largest error of the first part {float(in_metres[0]):.3e} m, of the second {float(in_metres[1]):.3e} m")
     if write:
         crate = Path(__file__).resolve().parent.parent / "crates" / "polynomial_run"
         (crate / "stdin").write_bytes(records)

@@ -1,6 +1,6 @@
-// Runs the polynomials at the points of standard input and prints, for each table, the largest error in 2^-40 m against the exact
-// values that stand beside the points. A record is five numbers of 8 bytes, little-endian: the table, the two parts in multiples of
-// 2^-30 m plus 2^50, and the exact first and second part of the value in multiples of 2^-40 m plus 2^63.
+// Runs the polynomials at the points of standard input and prints, for each table, the largest error of the first and of the second part in 10^-15 m against the exact
+// values that stand beside the points. A record is five numbers of 8 bytes, little-endian: the table, the two parts in multiples of 2^-30 m plus 2^50, and the exact
+// first and second part of the value in multiples of 2^-40 m plus 2^63; but a derivative's second part, which is small and nearer, in multiples of 2^-50 m plus 2^63.
 ghost use Prim.Native.Nat.{_+_, _*_, _^_, _≤_, _<_};
 ghost use lib.IntN.{natAbs};
 ghost use mathlib.Core.Path.{_≡_};
@@ -76,15 +76,28 @@ fn answer(table: u64, z: Pair) -> Pair {
     ten(z)
 }
 
-// x in multiples of 2^-40 plus 2^63; 0 where x is 2^23 or more in size.
-fn placed_number(x: f64) -> u64
-    requires { ⌜ Number x ⌝ }
+// Which multiples the second part is told in.
+fn second_power(table: u64) -> u64
+    ensures { λ r. ⌜ (15 ≤ r) × (r ≤ 50) ⌝ }
+{
+    if table == 1 {
+        return 50;
+    }
+    if table == 4 {
+        return 50;
+    }
+    40
+}
+
+// x in multiples of 2^-power plus 2^63; 0 where that many are 2^63 or more in size.
+fn placed_number(x: f64, power: u64) -> u64
+    requires { ⌜ Number x × (power ≤ 50) ⌝ }
 {
     let bits = f64::to_bits(x);
-    if bits % 9223372036854775808 / 4503599627370496 >= 1046 {
+    if bits % 9223372036854775808 / 4503599627370496 >= 1086 - power {
         return 0;
     }
-    let n = metres::scaled(x, 40);
+    let n = metres::scaled(x, power);
     if n >= 9223372036854775808 {
         return 0;
     }
@@ -96,9 +109,11 @@ fn placed_number(x: f64) -> u64
 }
 
 // The same of any x: 0 where it is not finite.
-fn placed(x: f64) -> u64 {
+fn placed(x: f64, power: u64) -> u64
+    requires { ⌜ power ≤ 50 ⌝ }
+{
     if double::is_finite(x) {
-        placed_number(x)
+        placed_number(x, power)
     } else {
         0
     }
@@ -112,23 +127,36 @@ fn larger(a: u64, b: u64) -> u64 {
     if a < b { b } else { a }
 }
 
-// The larger error of the two parts.
-fn error(bytes: &[u8; 40]) -> u64 {
-    let z = metres::arguments(centred(word(bytes, 8)), centred(word(bytes, 16)));
-    let p = answer(word(bytes, 0), z);
-    larger(
-        distance(placed(p.re), word(bytes, 24)),
-        distance(placed(p.im), word(bytes, 32)),
-    )
+// n multiples of 2^-power m in 10^-15 m, gone down: 10^15 is 5^15 * 2^15. Half a millimetre and more is told as the largest number.
+fn told(n: u64, power: u64) -> u64
+    requires { ⌜ (15 ≤ power) × (power ≤ 50) ⌝ }
+{
+    if n >= 536870912 {
+        return u64::MAX;
+    }
+    (n * 30517578125) >> (power - 15)
 }
 
-// Counts the record for its table and keeps the largest error.
-fn note(bytes: &[u8; 40], points: &mut [u64; 7], largest: &mut [u64; 7]) {
-    let table = word(bytes, 0) as usize;
-    if table < 7 {
-        let e = error(bytes);
-        largest[table] = larger(largest[table], e);
-        points[table] = points[table] % 1000000 + 1;
+// How far a part is from its exact value.
+fn error(x: f64, exact: u64, power: u64) -> u64
+    requires { ⌜ (15 ≤ power) × (power ≤ 50) ⌝ }
+{
+    told(distance(placed(x, power), exact), power)
+}
+
+// Counts the record for its table and keeps the largest error of each part.
+fn note(bytes: &[u8; 40], points: &mut [u64; 7], first: &mut [u64; 7], second: &mut [u64; 7]) {
+    let table = word(bytes, 0);
+    let at = table as usize;
+    if at < 7 {
+        let z = metres::arguments(centred(word(bytes, 8)), centred(word(bytes, 16)));
+        let p = answer(table, z);
+        first[at] = larger(first[at], error(p.re, word(bytes, 24), 40));
+        second[at] = larger(
+            second[at],
+            error(p.im, word(bytes, 32), second_power(table)),
+        );
+        points[at] = points[at] % 1000000 + 1;
     }
 }
 
@@ -137,7 +165,7 @@ fn read_one(bytes: &mut [u8; 40]) -> usize {
     io::read_full(STDIN_FILENO, bytes)
 }
 
-fn run(points: &mut [u64; 7], largest: &mut [u64; 7]) {
+fn run(points: &mut [u64; 7], first: &mut [u64; 7], second: &mut [u64; 7]) {
     let mut bytes = [0u8; 40];
     let mut left: u64 = 1000000;
     while left > 0 {
@@ -146,28 +174,31 @@ fn run(points: &mut [u64; 7], largest: &mut [u64; 7]) {
         if got < 40 {
             return;
         }
-        note(&bytes, points, largest);
+        note(&bytes, points, first, second);
     }
 }
 
-fn line(name: &[u8], points: u64, largest: u64) {
+fn line(name: &[u8], points: u64, first: u64, second: u64) {
     io::write_all(STDOUT_FILENO, name);
     io::write_all(STDOUT_FILENO, b" points ");
     io::print_decimal(STDOUT_FILENO, points);
-    io::write_all(STDOUT_FILENO, b" largest ");
-    io::print_decimal(STDOUT_FILENO, largest);
-    io::write_all(STDOUT_FILENO, b"\n");
+    io::write_all(STDOUT_FILENO, b" first ");
+    io::print_decimal(STDOUT_FILENO, first);
+    io::write_all(STDOUT_FILENO, b" second ");
+    io::print_decimal(STDOUT_FILENO, second);
+    io::write_all(STDOUT_FILENO, b" of 10^-15 m\n");
 }
 
 fn main() {
     let mut points = [0u64; 7];
-    let mut largest = [0u64; 7];
-    run(&mut points, &mut largest);
-    line(b"forward_grs80", points[0], largest[0]);
-    line(b"derivative_grs80", points[1], largest[1]);
-    line(b"inverse_grs80", points[2], largest[2]);
-    line(b"forward_krasovsky", points[3], largest[3]);
-    line(b"derivative_krasovsky", points[4], largest[4]);
-    line(b"inverse_krasovsky", points[5], largest[5]);
-    line(b"ten", points[6], largest[6]);
+    let mut first = [0u64; 7];
+    let mut second = [0u64; 7];
+    run(&mut points, &mut first, &mut second);
+    line(b"forward_grs80", points[0], first[0], second[0]);
+    line(b"derivative_grs80", points[1], first[1], second[1]);
+    line(b"inverse_grs80", points[2], first[2], second[2]);
+    line(b"forward_krasovsky", points[3], first[3], second[3]);
+    line(b"derivative_krasovsky", points[4], first[4], second[4]);
+    line(b"inverse_krasovsky", points[5], first[5], second[5]);
+    line(b"ten", points[6], first[6], second[6]);
 }

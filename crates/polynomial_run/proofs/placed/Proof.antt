@@ -9,7 +9,7 @@ is-finite-requires : tie.Need-is-finite-requires
 is-finite-requires c κs = search needs
 
 placed-number-requires : tie.Need-placed-number-requires
-placed-number-requires c κs = record { is-finite = subst T (sym (sym (c .before .is-finite .ensures) ∙ c .if1 .taken)) tt; is-held = subst T (sym (c .before .before .good .0 .1)) tt }
+placed-number-requires c κs = (record { is-finite = subst T (sym (sym (c .before .is-finite .ensures) ∙ c .if1 .taken)) tt; is-held = subst T (sym (c .before .before .good .0 .1)) tt }, c .before .before .pre)
 
 returns : tie.Need-returns
 returns c = search needs

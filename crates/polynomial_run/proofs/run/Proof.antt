@@ -4,10 +4,10 @@ use Rattle.polynomial_run.proofs.run.Statement.{statement}
 use Rattle.polynomial_run.proofs.run.Tie as tie
 
 abbrev Inv-loop : tie.InvT-loop
-Inv-loop points₀ largest₀ bytes₀ left₀ points largest bytes left = Unit
+Inv-loop points₀ first₀ second₀ bytes₀ left₀ points first second bytes left = Unit
 
 abbrev μ-loop : tie.MeasureT-loop
-μ-loop points₀ largest₀ bytes₀ left₀ points largest bytes left = left
+μ-loop points₀ first₀ second₀ bytes₀ left₀ points first second bytes left = left
 
 loop-holds : tie.Need-loop-holds Inv-loop μ-loop
 loop-holds c = search needs
