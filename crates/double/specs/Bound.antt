@@ -13,7 +13,7 @@ use Rattle.double.specs.Complex.{Numbers, values}
 use Rattle.double.specs.Pairs.{_⊝_, _⊙_, Modulus}
 use Rattle.double.specs.Exact.{weight, lost}
 
--- at most ten coefficients c₀ ∷ cs, each over D, "whose sizes times the powers of z's largest size add up to at most" k; that size is m, in units of 2 ^ -1074, 1 at least
+-- at most ten coefficients c₀ ∷ cs, each over D, whose sizes times the powers of z's largest size add up to at most k; that size is m, in units of 2 ^ -1074, 1 at least
 pub record Light (D : ℕ) (c₀ : ℤ) (cs : List ℤ) (m k : ℕ) : Type 0 where
   pub over : 0 < D
   pub few : length cs ≤ 9
@@ -49,7 +49,7 @@ abbrev pub AnsweredTable : ℕ → List ℤ → Pair → Pair → Type 0
 AnsweredTable D [] z answer = Unit
 AnsweredTable D (c₀ ∷ cs) z answer = Answered D c₀ cs z answer
 
--- 1.7 in units of 2 ^ -1074: the modulus of a pair whose "parts are at most 1.2 in size"
+-- 1.7 in units of 2 ^ -1074: the modulus of a pair by "parts of z at most 1.2 in size"
 unfoldable pub reach : ℕ
 unfolding double-unit
 reach = 17 * double-unit / 10

@@ -14,7 +14,7 @@ unfoldable pub at : ℕ → List ℤ → Pair → Pair
 at u [] z = record { first = pos 0; second = pos 0 }
 at u (c ∷ cs) z = (c *ℤ pos (u ^ length cs)) ⊞ (z ⊗ at u cs z)
 
--- |c₀| + |c₁|·m + .. + |cₙ|·mⁿ, at the same scale: "sizes times the powers of z's largest size"
+-- |c₀| + |c₁|·m + .. + |cₙ|·mⁿ, at the same scale: sizes times the powers of z's largest size
 unfoldable pub weight : ℕ → List ℤ → ℕ → ℕ
 weight u [] m = 0
 weight u (c ∷ cs) m = natAbs c * u ^ length cs + weight u cs m * m

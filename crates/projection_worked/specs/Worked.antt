@@ -1,4 +1,4 @@
--- What the arithmetic gives: the worked values of forward and inverse, each one value for every input. How near they are to the definition is in Laws. Assumes nothing.
+-- What the arithmetic gives forward: the worked value, one for every input. That of the inverse is in Inverse, how near both are to the definition in Laws. Assumes nothing.
 use mathlib.Core.Bool.{Bool, true, false, _&&_}
 use Prim.Native.Nat.{ℕ, _-_, _/_, _^_}
 use lib.IntN.{ℤ, pos, natAbs, _+ℤ_, _-ℤ_}

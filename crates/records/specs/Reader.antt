@@ -1,5 +1,5 @@
 -- What stands at a place of a job file's bytes, by the rules' own kinds, lengths and numbers: a record with the place after it, refusal 11 or 12 with the
--- place of the kind byte, or nothing. And what a record means: the rules' step, of a record that has been read. Assumes nothing.
+-- place of the kind byte, or nothing. What a record does to a job is in `job_state`. Assumes nothing.
 use mathlib.Core.Path.{_≡_}
 use mathlib.Core.Bool.{true, false}
 use mathlib.Core.List.{List, [], _∷_}
@@ -7,8 +7,7 @@ use Prim.Native.Nat.{ℕ, _+_, _*_}
 use lib.Dec.{ltb}
 use lib.ListN.{length, take, drop, getD}
 use Rattle.rules.specs.Refusals.{Answer, answered, refused, crossed-at, body-cut-off, ring-crossed}
-use Rattle.rules.specs.Points.{Point}
-use Rattle.rules.specs.JobFile.{Kind, begin-field, corner, close-ring, nozzle-query, point-to-plane, Row, kinds, find-kind, code-of, number-at, step}
+use Rattle.rules.specs.JobFile.{Kind, begin-field, corner, close-ring, nozzle-query, point-to-plane, Row, kinds, find-kind, code-of, number-at}
 use Rattle.records.specs.declared.Record as code
 use Rattle.records.specs.declared.Record.the-variants as case
 use Rattle.records.specs.declared.Read as reader
