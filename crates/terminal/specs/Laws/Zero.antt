@@ -1,4 +1,4 @@
--- "All calls return 0 or the refusal's number": no refusal has the number 0, so a call that returns 0 has answered, and the lent memory holds the answer.
+-- A call returns 0 or the refusal's number: no refusal has the number 0, so a call that returns 0 has answered, and the lent memory holds the answer.
 -- Of forward, inverse, plane to plane and ring conversion it follows from `Right`, what the projection owes; the others owe nothing more. Assumes nothing.
 use mathlib.Core.Bool.{Bool, true, false, not}
 use mathlib.Core.Path.{_≡_, refl, sym, subst}
