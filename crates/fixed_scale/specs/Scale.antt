@@ -250,7 +250,7 @@ module _ (E : Ellipsoid) (n : ℕ) (h : Latitude n) (s : Bool) (d : ℕ) (g : d 
       (ratio-high (17 * unit / 10) (ratio-div (product (pos 2 *ℤ K-of (constants E) t) cB) (denominator (K-of (constants E) t) t) (le-trans (lit≤ tt) low))
       (near-most (fn .near) (fn .high)) low (lit< tt))
 
-  -- "the product of R0·cos f / (N·cos B) and of 1/√(1 - cos²f·sin²d)"
+  -- the product of R0·cos f / (N·cos B) and of 1/√(1 - cos²f·sin²d)
   pub sphere-scale-of-near : Fixed (sphere-scale-of E n d) (product (sphere-scale (constants E) (sphere-at E n) t cB) (mercator-scale (sphere-at E n) z)) (710000 * unit) (88 * S60 / 100) (114 * S60 / 100)
   unfolding sphere-scale-of meridian-of spread-of sphere-scale mercator-scale N-of sphere-at sphere meridian-at spread-at denominator
   sphere-scale-of-near =

@@ -42,7 +42,7 @@ pub or-false : (x y : Bool) → ((x || y) ≡ false) ↔ ((x ≡ false) × (y �
 or-false true y = (λ e. (e, absurd (subst T e tt)), λ h. h .0)
 or-false false y = (λ e. (refl, e), λ h. h .1)
 
--- "size of z above n"
+-- the size of z is above n
 pub above-exact : (z : ℤ) (n : ℕ) → (above z (pos n) ≡ false) ↔ (natAbs z ≤ n)
 unfolding above
 above-exact z n = (λ e. ltb-false n (natAbs z) .0 e, λ h. ltb-false n (natAbs z) .1 h)
