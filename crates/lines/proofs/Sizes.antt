@@ -46,7 +46,7 @@ module _ (z : ℤ) (f : SFits w64 z) (h : ltZ (toZ w64 (ofZ w64 z)) (pos 0) ≡ 
   pub above : T (nonNeg (toZ w64 (ofZ w64 z))) × Fits w64 (natAbs (toZ w64 (ofZ w64 z)))
   above = rw (toZ-ofZ f) (above-of z f (sym (ap (λ (t : ℤ). ltZ t (pos 0)) (toZ-ofZ f)) ∙ h))
 
--- ---- a whole number's text: "decimal numbers with sign"
+-- ---- a whole number's text: its sign, and its size in decimal
 pub text-below : (z : ℤ) (n : ℕ) → SFits w64 z → ltZ (toZ w64 (ofZ w64 z)) (pos 0) ≡ true → n ≡ natAbs (toZ w64 (ofZ w64 z)) → text "-" ++ decimal n ≡ whole z
 unfolding whole
 text-below z n f h e = ap (λ (n : ℕ). text "-" ++ decimal n) (e ∙ ap natAbs (toZ-ofZ f)) ∙ go z (sym (ap (λ (t : ℤ). ltZ t (pos 0)) (toZ-ofZ f)) ∙ h)

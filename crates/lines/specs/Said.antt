@@ -13,6 +13,6 @@ pub record Longer (l : Line) (text : List ℕ) (r : Line) : Type 0 where
   pub counted : r .count ≡ l .count + length text
   pub says : said r ≡ said l ++ text
 
--- a text laid over a buffer from a place on: "Output places past .. keep what they held"
+-- a text laid over a buffer from a place on; the places before and past it "keep what they held"
 abbrev pub pasted : ℕ → List ℕ → List ℕ → List ℕ
 pasted at text out = take at out ++ text ++ drop (at + length text) out
