@@ -15,6 +15,13 @@ use Rattle.rules.specs.Laws.Checks.{ltZ-true, ltZ-false, or-true, or-false}
 use Rattle.systems.specs.Zones.{beyond, Stands}
 use Rattle.systems.specs.declared.Zone.{Zone}
 
+-- "ends allowed"
+low-end : beyond (pos 48) (pos 56) (pos 48) ≡ false
+low-end = refl
+
+high-end : beyond (pos 48) (pos 56) (pos 56) ≡ false
+high-end = refl
+
 -- two tests that fail together and are met together are one
 same-test : (a b : Bool) → (a ≡ false → b ≡ false) → (b ≡ false → a ≡ false) → a ≡ b
 same-test true true h k = refl
