@@ -49,23 +49,25 @@ def angle(ticks):
 
 
 def series():
-    half, three = UNIT // 2, 3 * UNIT
-    return [
-        ("sine-3", "sine (pos (3 * unit))", definition.sine(three)),
-        ("cosine-3", "cosine (pos (3 * unit))", definition.cosine(three)),
-        ("exponential-half", "exponential (5 /10^ 1)", definition.summed(half, definition.EXPONENTIAL)),
-        ("hyperbolic-sine-half", "hyperbolic-sine (5 /10^ 1)", definition.product(half, definition.summed(definition.product(half, half), definition.HYPERBOLIC_SINE))),
-        ("hyperbolic-cosine-half", "hyperbolic-cosine (5 /10^ 1)", definition.summed(definition.product(half, half), definition.HYPERBOLIC_COSINE)),
-        ("arctan-half", "arctan (5 /10^ 1)", definition.arctan(half)),
-        ("artanh-half", "artanh (5 /10^ 1)", definition.artanh(half)),
+    """At 3, where the last term of each series shows, the order of its coefficients, and what it ends in."""
+    x = 3 * UNIT
+    square = definition.product(x, x)
+    values = [
+        ("sine", definition.sine(x)),
+        ("cosine", definition.cosine(x)),
+        ("exponential", definition.summed(x, definition.EXPONENTIAL)),
+        ("hyperbolic-sine", definition.product(x, definition.summed(square, definition.HYPERBOLIC_SINE))),
+        ("hyperbolic-cosine", definition.summed(square, definition.HYPERBOLIC_COSINE)),
+        ("arctan", definition.arctan(x)),
+        ("artanh", definition.artanh(x)),
     ]
+    return [(name + "-3", name + " (pos (3 * unit))", value) for name, value in values]
 
 
-SERIES_HEAD = """-- 01, "Power series are cut": each series at an argument at which its last term shows, with all digits. %s
+SERIES_HEAD = """-- 01, "Power series are cut": each series at 3, where its last term shows, with all digits. %s
 use mathlib.Core.Path.{_≡_}
 use Prim.Native.Nat.{_*_}
 use lib.IntN.{ℤ, pos, negℤ}
-use Rattle.rules.specs.Systems.{_/10^_}
 use Rattle.rules.specs.Scaled.{unit, sine, cosine, exponential, hyperbolic-sine, hyperbolic-cosine, arctan, artanh}
 
 pub record Series : Type 0 where

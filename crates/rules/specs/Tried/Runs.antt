@@ -8,6 +8,7 @@ use lib.ListN.{replicate}
 use Rattle.rules.specs.Units.{_°_′_″}
 use Rattle.rules.specs.Refusals.{Answer, answered, refused, passed}
 use Rattle.rules.specs.Systems.{_/10^_}
+use Rattle.rules.specs.Scaled.{one, sqrt, quotient}
 use Rattle.rules.specs.Points as P
 use Rattle.rules.specs.RingAnswers as N
 use Rattle.rules.specs.Rounding.{nearest}
@@ -58,6 +59,9 @@ pub record Runs : Type 0 where
   -- "the 1,025th corner is 6 at once, before 7"
   pub corner-1025 : cornered 1 (replicate 1024 origin) (pos 20_000_000_000) (pos 0) ≡ refused 6
   pub corner-1024 : cornered 1 (replicate 1023 origin) (pos 20_000_000_000) (pos 0) ≡ refused 7
+  -- for totality, where no point that is taken comes to
+  pub negative-root : sqrt (negℤ one) ≡ pos 0
+  pub quotient-by-0 : quotient one (pos 0) ≡ pos 0
   -- "rounded to the nearest unit, ties to even"
   pub half : nearest (5 /10^ 1) ≡ pos 0
   pub half-of-3 : nearest (15 /10^ 1) ≡ pos 2

@@ -8,9 +8,9 @@ unfolding computing
 series = record {
   sine-3 = refl;
   cosine-3 = refl;
-  exponential-half = refl;
-  hyperbolic-sine-half = refl;
-  hyperbolic-cosine-half = refl;
-  arctan-half = refl;
-  artanh-half = refl;
+  exponential-3 = refl;
+  hyperbolic-sine-3 = refl;
+  hyperbolic-cosine-3 = refl;
+  arctan-3 = refl;
+  artanh-3 = refl;
 }
