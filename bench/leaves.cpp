@@ -37,7 +37,7 @@ u64 leaf_inverse_latitude60(bool, u64);
 u64 leaf_nearest_even(u64, u64);
 u64 leaf_ticks60(u64);
 Two leaf_inverse60(bool, u64, u64);
-u64 leaf_scale_units(u64);
+u64 leaf_scale_units(u64, u64);
 u64 leaf_angle_units(u64);
 i64 leaf_convergence_units(i64);
 struct Four {
@@ -76,7 +76,7 @@ static i64 sum(const Sphere &a) { return (i64)(a.t + a.c + a.sd + a.cd + a.k + a
 // ---- arguments: points of either ellipsoid and what the leaves make of them
 struct Point {
     bool krasovsky;
-    u64 n, d, square, ratio, radius, centre, shortened, across, turn, first, slope, rho, scale;
+    u64 n, d, square, ratio, radius, centre, shortened, across, turn, first, slope, rho, scale, m0;
     i64 convergence;
     Sphere sphere;
     u64 a, b, quotient;
@@ -95,6 +95,7 @@ static void forward_part(Point &at, Random &random) {
     at.first = (u64)(0.99937 * ONE) + below(random, (u64)(0.00046 * ONE)), at.slope = below(random, (u64)(0.00021 * ONE));
     at.rho = at.slope >> 17;
     at.scale = Plain::mul60(leaf_sphere_scale60(at.square, at.ratio, at.sphere, at.across), leaf_length60(at.first, at.slope));
+    at.m0 = at.krasovsky ? 1000000000 : 999300000;
     at.convergence = (at.n % 2 ? 1 : -1) * leaf_convergence60(at.turn, at.d % 2, at.slope);
 }
 
@@ -196,7 +197,7 @@ static void forward_leaves() {
     LEAF_OTHER(length60, "derivative's length", 100, WITH(p.first, p.slope), WITH(p.first, p.rho));
     LEAF_ROW(turn60, "arc tangent of sin f tan d", 50000, WITH(p.sphere));
     LEAF_OTHER(convergence60, "convergence", 200000, WITH(p.turn, p.krasovsky, p.slope), WITH(p.turn, p.krasovsky, p.rho));
-    LEAF_ROW(scale_units, "scale to units of the answer", 0, WITH(p.scale));
+    LEAF_ROW(scale_units, "scale times m0 to units of the answer", 0, WITH(p.scale, p.m0));
     LEAF_ROW(angle_units, "angle to units of the answer", 1, WITH(p.turn));
     LEAF_ROW(convergence_units, "convergence to units of the answer", 1, WITH(p.convergence));
 }

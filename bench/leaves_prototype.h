@@ -300,7 +300,7 @@ struct Prototype {
     }
 
     // ---- units of the answers
-    LEAF u64 scale_units(u64 sc) { return nearest((sc / HALF) * 1000000000 + (sc % HALF) * 1000000000 / HALF, HALF); }
+    LEAF u64 scale_units(u64 sc, u64 m0) { return nearest((sc / HALF) * m0 + (sc % HALF) * m0 / HALF, HALF); }
 
     static inline u64 angle_units_of(u64 a) { return nearest(times(a, THOUSANDTHS), 1ULL << 32); }
     LEAF u64 angle_units(u64 a) { return angle_units_of(a); }

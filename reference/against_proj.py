@@ -18,7 +18,6 @@ import projection
 from definition_against_truth import forward_grid
 from systems import DEGREE, SYSTEMS
 
-Coordinates = ctypes.c_double * 4
 FACTORS = (
     "meridional_scale parallel_scale areal_scale angular_distortion meridian_parallel_angle meridian_convergence "
     "tissot_semimajor tissot_semiminor dx_dlam dx_dphi dy_dlam dy_dphi"
@@ -26,7 +25,9 @@ FACTORS = (
 
 
 class Point(ctypes.Structure):
-    _fields_ = [("v", Coordinates)]
+    """PJ_COORD, by names and not as an array: passed by value, an array of four arrives otherwise on Arm."""
+
+    _fields_ = [(name, ctypes.c_double) for name in ("east", "north", "height", "time")]
 
 
 class Factors(ctypes.Structure):
@@ -51,15 +52,15 @@ def text_of(system):
 
 def differences(proj, made, system, B, L):
     """X, Y in mm, scale in 10^-9, convergence in thousandths of an arc second, and B, L in ticks, of the reference less PROJ."""
-    radians = Point(Coordinates(math.radians(L / DEGREE), math.radians(B / DEGREE), 0, 0))
+    radians = Point(math.radians(L / DEGREE), math.radians(B / DEGREE), 0, 0)
     plane = proj.proj_trans(made, 1, radians)
     factors = proj.proj_factors(made, radians)
     X, Y, scale, convergence = projection.forward_raw(system, B, L)
     back = projection.inverse_raw(system, X, Y)
     return [
-        X - Decimal(plane.v[1]) * 1000,
-        Y - Decimal(plane.v[0]) * 1000,
-        scale - Decimal(factors.meridional_scale) / Decimal(system.m0) * 10**9,
+        X - Decimal(plane.north) * 1000,
+        Y - Decimal(plane.east) * 1000,
+        scale - Decimal(factors.meridional_scale) * 10**9,
         convergence - Decimal(math.degrees(factors.meridian_convergence)) * 3600 * 1000,
         back[0] - B,
         back[1] - L,

@@ -146,12 +146,12 @@ def sphere(k, t, cos_B):
     return quotient(lifted - (UNIT - t), below), quotient(product(2 * K, cos_B), below)
 
 
-def scale_of(k, t, cos_B, cos_f, sin_d, h):
+def scale_of(k, m0, t, cos_B, cos_f, sin_d, h):
     N = quotient(k.a, square_root(UNIT - product(product(k.e, k.e), product(t, t))))
     on_sphere = quotient(product(k.R0, cos_f), product(N, cos_B))
     on_plane = quotient(UNIT, square_root(UNIT - product(product(cos_f, cos_f), product(sin_d, sin_d))))
     length = square_root(product(h[0], h[0]) + product(h[1], h[1]))
-    return product(product(on_sphere, on_plane), product(length, scaled("0.000002")))
+    return product(product(product(on_sphere, on_plane), product(length, scaled("0.000002"))), m0)
 
 
 def forward(system, B, L):
@@ -169,7 +169,7 @@ def forward(system, B, L):
     return (
         1000 * product(m0, north),
         1000 * product(m0, east),
-        10**9 * scale_of(k, t, cos_B, cos_f, sin_d, h),
+        10**9 * scale_of(k, m0, t, cos_B, cos_f, sin_d, h),
         turned_to(HALF_TURN_THOUSANDTHS, convergence),
     )
 

@@ -24,6 +24,10 @@ NONE, GATHERING, ACCEPTED = "none", "gathering", "accepted"
 PLACES = {BEGIN: (NONE, ACCEPTED), CORNER: (GATHERING,), CLOSE: (GATHERING,), QUERY: (ACCEPTED,), POINT: (NONE, ACCEPTED)}
 
 
+def near_a_tie(value):
+    return abs(value % 1 - Decimal("0.5")) <= TIE_MARGIN
+
+
 class Refused(Exception):
     def __init__(self, number, edges=None):
         super().__init__(number)
@@ -73,7 +77,7 @@ class Job:
         refusal, values = projection.forward(code, B, L)
         if refusal:
             raise Refused(refusal)
-        self.certain &= all(abs(value % 1 - Decimal("0.5")) > TIE_MARGIN for value in values)
+        self.certain &= not any(near_a_tie(value) for value in values)
         self.lines.append("point %d %d %d %d" % tuple(projection.nearest(value) for value in values))
 
 

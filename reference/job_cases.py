@@ -10,9 +10,11 @@ import random
 import shutil
 import sys
 from collections import Counter
+from decimal import Decimal
 from pathlib import Path
 
 import job
+import projection
 import ring_cases
 import rings
 from systems import DEGREE, SYSTEMS
@@ -112,12 +114,20 @@ def firm(record):
     return job.run(record)[1]
 
 
-def any_point(rng, system):
+def drawn(rng, system):
+    """A point with no value near a tie, its scale taken before m0: so what is drawn does not turn on m0, and the files stay as they are where m0 is put elsewhere."""
     while True:
         d = rng.randint(-system.half_width, system.half_width)
-        record = job.point(system.code, rng.randint(48 * DEGREE, 56 * DEGREE), system.L0 + d)
-        if firm(record):
-            return record
+        B, L = rng.randint(48 * DEGREE, 56 * DEGREE), system.L0 + d
+        X, Y, scale, convergence = projection.forward_raw(system, B, L)
+        if not any(job.near_a_tie(value) for value in (X, Y, scale / Decimal(system.m0), convergence)):
+            return job.point(system.code, B, L)
+
+
+def any_point(rng, system):
+    """A point that is firm; one that is not is drawn again from a stream of its own, so that those after it stay."""
+    record = drawn(rng, system)
+    return record if firm(record) else any_point(random.Random(record), system)
 
 
 def points(rng):

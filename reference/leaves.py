@@ -86,8 +86,8 @@ INVERSE = (
 # ---- the definition's numbers of a point, by the names of the leaves
 
 
-def forward_defined(ellipsoid, B, d):
-    k, b, angle = by.NUMBERS[ellipsoid.name], by.radians(B), by.radians(d)
+def forward_defined(system, B, d):
+    k, m0, b, angle = by.NUMBERS[system.ellipsoid.name], by.scaled(system.m0), by.radians(B), by.radians(d)
     t, c, sd, cd = by.sine(b), by.cosine(b), by.sine(angle), by.cosine(angle)
     K = by.summed(-product(k.e, by.artanh(product(k.e, t))), by.EXPONENTIAL)
     lifted = product(product(K, K), UNIT + t)
@@ -99,7 +99,7 @@ def forward_defined(ellipsoid, B, d):
     return {
         "t": t, "c": c, "sd": sd, "cd": cd, "K": K, "numerator": numerator, "denominator": denominator, "doubled": doubled, "sin f": sin_f,
         "across": across, "artanh": by.artanh(across), "tilt": tilt, "arctan": by.arctan(tilt), "north": north - 5760000 * UNIT, "east": east,
-        **scale_defined(k, t, c, cos_f, sd, (north, east)), **turn_defined(k, sin_f, sd, cd, (north, east)),
+        **scale_defined(k, m0, t, c, cos_f, sd, (north, east)), **turn_defined(k, sin_f, sd, cd, (north, east)),
     }
 
 
@@ -109,7 +109,7 @@ def pairs(k, mercator):
     return by.polynomial(k.a_coefficients, z), by.polynomial([n * c for n, c in enumerate(k.a_coefficients)][1:], z)
 
 
-def scale_defined(k, t, c, cos_f, sd, mercator):
+def scale_defined(k, m0, t, c, cos_f, sd, mercator):
     (X, Y), h = pairs(k, mercator)
     meridian = by.square_root(UNIT - product(product(k.e, k.e), product(t, t)))
     spread = by.square_root(UNIT - product(product(cos_f, cos_f), product(sd, sd)))
@@ -119,7 +119,7 @@ def scale_defined(k, t, c, cos_f, sd, mercator):
     scale = product(sphere_scale, length)
     return {
         "X": X, "Y": Y, "meridian": meridian, "spread": spread, "sphere scale": sphere_scale, "first": product(h[0], by.scaled("0.000002")),
-        "length": length, "scale": scale, "scale answer": 10**9 * scale,
+        "length": length, "scale": scale, "scale answer": 10**9 * product(scale, m0),
     }
 
 
@@ -154,14 +154,14 @@ def inverse_defined(system, X, Y):
 # ---- the worked numbers of a point, with the signs that the code puts on last
 
 
-def forward_worked(ellipsoid, B, d):
-    at, side = worked.forward(worked.CONSTANTS[ellipsoid.name], B, abs(d)), -1 if d < 0 else 1
+def forward_worked(system, B, d):
+    at, side = worked.forward(worked.CONSTANTS[system.ellipsoid.name], B, abs(d)), -1 if d < 0 else 1
     south = -1 if at["south"] else 1
     signed = {name: side * at[name] for name in ("sd", "across", "artanh", "east", "tangent", "turn", "convergence")}
     return {
         **at, **signed, "numerator": 2 * at["n2"], "denominator": 2 * at["d2"], "doubled": 2 * at["kc"], "tilt": south * at["tilt"],
         "arctan": south * at["arctan"], "slope": (-side if at["back"] else side) * at["slope"], "X": Fraction(at["pair"][0]),
-        "Y": side * Fraction(at["pair"][1]), "scale answer": worked.scale_units(at["scale"]),
+        "Y": side * Fraction(at["pair"][1]), "scale answer": worked.scale_units(at["scale"], 1000 * worked.millionths(system)),
         "convergence answer": worked.convergence_units(side * at["convergence"]),
     }
 
@@ -256,12 +256,12 @@ def report(title, worst):
 def measure_forward(rng, count):
     worst, points = Worst(FORWARD), 0
     for ellipsoid, B, d in forward_points(rng, count):
-        defined = forward_defined(ellipsoid, B, d)
         system = SYSTEMS[1 if ellipsoid is GRS80 else 8]
+        defined = forward_defined(system, B, d)
         whole = by.forward(system, B, system.L0 + d)
         m0 = by.scaled(system.m0)
         assert whole == (1000 * product(m0, defined["X"]), 1000 * product(m0, defined["Y"]), defined["scale answer"], defined["convergence answer"])
-        worst.add(forward_worked(ellipsoid, B, d), defined)
+        worst.add(forward_worked(system, B, d), defined)
         points += 1
     return report("Forward, %d points, in units of 2^-60 where no other is said" % points, worst)
 

@@ -86,7 +86,7 @@ def forward_raw(system, B_ticks, L_ticks):
     h = horner(slope(k.a_coefficients), z)
     sin_B, cos_B = true.sin_cos_pair(B)
     R_N = k.a / (1 - (k.e * sin_B) ** 2).sqrt()
-    scale = k.R0 * cos_f / (R_N * cos_B) / (r * s).sqrt() * (h[0] ** 2 + h[1] ** 2).sqrt() * STEP
+    scale = m0 * k.R0 * cos_f / (R_N * cos_B) / (r * s).sqrt() * (h[0] ** 2 + h[1] ** 2).sqrt() * STEP
     convergence = true.atan(sin_f * sin_d / cos_d) - true.atan(h[1] / h[0])
     return (
         1000 * (system.x0 + m0 * north),

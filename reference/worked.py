@@ -267,8 +267,9 @@ def ticks60(b):
 # ---- crate fixed_units
 
 
-def scale_units(scale):
-    return nearest_even(scale * 10**9 // HALF, HALF)
+def scale_units(scale, m0):
+    """A scale times m0, which is given in units of 10^-9, in those units."""
+    return nearest_even(scale * m0 // HALF, HALF)
 
 
 def convergence_units(angle):
@@ -371,7 +372,7 @@ def answer_forward(system, B, L):
     side = -1 if d < 0 else 1
     at = forward(CONSTANTS[system.ellipsoid.name], B, abs(d))
     north, east = (millimetres(part, millionths(system)) for part in at["pair"])
-    return 1000 * system.x0 + north, 1000 * system.y0 + side * east, scale_units(at["scale"]), convergence_units(side * at["convergence"])
+    return 1000 * system.x0 + north, 1000 * system.y0 + side * east, scale_units(at["scale"], 1000 * millionths(system)), convergence_units(side * at["convergence"])
 
 
 def answer_inverse(system, X, Y):

@@ -109,7 +109,7 @@ void judge_forward(int code, int64_t b, int64_t l, real values[4]) {
     values[1] = system->m0 * cimagl(plane) * 1000;
     real N = on->a / sqrtl(1 - on->e * on->e * sinl(B) * sinl(B));
     real scale = on->R0 * cos_f / (N * cosl(B)) / sqrtl(1 - cos_f * cos_f * sinl(d) * sinl(d)) * cabsl(slope) * STEP;
-    values[2] = scale * 1000000000;
+    values[2] = system->m0 * scale * 1000000000;
     values[3] = ticks(atanl(sin_f * tanl(d)) - cargl(slope)) / 1000;
 }
 

@@ -5,17 +5,18 @@ use fixed_inverse::nearest_even;
 ghost use mathlib.Core.Path.{_≡_};
 ghost use Prim.Native.Nat.{ℕ, _*_, _/_, _^_, _≤_};
 ghost use lib.IntN.{ℤ, natAbs};
+ghost use Rattle.rules.specs.Units.{units-in-scale};
 ghost use Rattle.fixed.specs.Worked.{S60};
 ghost use Rattle.fixed_units.specs.Worked.{scale-units, angle-units, convergence-units};
 
-// A scale in whole units of 10^-9, by the halves of its bits.
-pub fn scale_units(sc: u64) -> u64
-    requires { ⌜ sc ≤ 13 * S60 / 10 ⌝ }
-    ensures { λ r. ⌜ r ≡ scale-units sc ⌝ }
+// A scale times m0 in whole units of 10^-9, by the halves of its bits. m0 comes in those units and takes the place of 10^9, so it costs no rounding of its own.
+pub fn scale_units(sc: u64, m0: u64) -> u64
+    requires { ⌜ (sc ≤ 13 * S60 / 10) × (m0 ≤ units-in-scale) ⌝ }
+    ensures { λ r. ⌜ r ≡ scale-units m0 sc ⌝ }
     ensures size { λ r. ⌜ r ≤ 2 * 10 ^ 9 ⌝ }
 {
-    let upper = sc / 0x4000_0000 * 1_000_000_000;
-    let lower = sc % 0x4000_0000 * 1_000_000_000 / 0x4000_0000;
+    let upper = sc / 0x4000_0000 * m0;
+    let lower = sc % 0x4000_0000 * m0 / 0x4000_0000;
     nearest_even(upper + lower, 0x4000_0000)
 }
 

@@ -1,4 +1,4 @@
--- A part of at most 8,000,001 m fits the arithmetic of millimetres; what m0 is short of 1. Assumes nothing.
+-- A part of at most 8,000,001 m fits the arithmetic of millimetres; m0 in millionths, and what it is short of 1. Assumes nothing.
 use mathlib.Core.Path.{_≡_, refl, sym, ap, _∙_}
 use Prim.Native.Nat.{ℕ, _+_, _-_, _*_, _/_, _^_, _≤_, _<_}
 use native.Mathlib.Nat.{div-mul-le-self, le-trans, mul-le-mul-right, le-of-mul-le-mul-right}
@@ -6,10 +6,16 @@ use native.Mathlib.Omega.{arith}
 use lib.Dec.{lit<}
 use lib.IntN.{ℤ, pos, negsuc, natAbs, _-ℤ_}
 use lib.Signed.{_≤ℤ_}
+use mir.Syntax.{w64}
+use mir.Val.{toZ, ofZ}
 use Rattle.arith.specs.Laws.Diff.{_⊖_, Z·ℕ}
+use Rattle.arith.specs.Laws.Machine.{v-in}
+use Rattle.arith.specs.Laws.Order.{≤ℤ-trans}
 use Rattle.rules.specs.Polynomial.{double-unit}
 use Rattle.double.specs.Laws.Operations.{double-unit-pos}
 use Rattle.metres.specs.Millimetres.{Fits, truncated}
+use Rattle.systems.specs.Zones.{Sized}
+use Rattle.systems.specs.declared.Zone.{Zone}
 
 pub part-small : (v : ℤ) → natAbs v ≤ 8000001 * double-unit → natAbs v < 2 ^ 44 * double-unit
 part-small v h = go (natAbs v) double-unit h double-unit-pos
@@ -41,3 +47,10 @@ short-of (pos k) p h = go k (1000000 - k) (omega arith)
     go : (k r : ℕ) → k + r ≡ 1000000 → pos 1000000 -ℤ pos k ≡ pos r
     go k r e = simp Z·ℕ (omega arith)
 short-of (negsuc k) p h = absurd (p .le)
+
+-- m0's millionths, as they are passed on, and their range
+pub millionths-given : (z : Zone) → Sized z → toZ w64 (ofZ w64 (z .millionths)) ≡ z .millionths
+millionths-given z h = v-in w64 (z .millionths) (h .millionths) tt .is
+
+pub millionths-positive : (z : Zone) → Sized z → pos 0 ≤ℤ z .millionths
+millionths-positive z h = ≤ℤ-trans (record { le = tt }) (h .millionths-positive)

@@ -23,7 +23,7 @@ ghost use Rattle.fixed_forward.specs.Points.{SphereSizes};
 ghost use Rattle.fixed_scale.specs.Scale.{square60, ratio60, meridian60, spread60, sphere-scale60};
 ghost use Rattle.fixed_scale.specs.Length.{length60};
 ghost use Rattle.fixed_scale.specs.Convergence.{sine-f60, turn60, convergence60};
-ghost use Rattle.fixed_units.specs.Worked.{scale-units, convergence-units};
+ghost use Rattle.fixed_units.specs.Worked.{scale-units, m0-units, convergence-units};
 ghost use Rattle.projection.specs.Located.{Taken, LocatedAt};
 
 // The side of the central meridian on which a point lies, and its distance in ticks.
@@ -103,14 +103,14 @@ pub fn plane_at(zone: Zone, b: i64, l: i64) -> PlaneAnswer
     PlaneAnswer::Refused(10)
 }
 
-// Scale in units of 10^-9, of the derivative's parts.
-pub fn scale_of(krasovsky: bool, m: Mercator, parts: SlopeParts) -> i64
-    requires { ⌜ SphereSizes (m .sphere) × (m .across ≤ 11 * S60 / 100) × (parts .first ≤ 101 * S60 / 100) × (parts .slope ≤ 30 * S60 / 100000) ⌝ }
-    ensures { λ r. ⌜ r ≡ pos (scale-units (mul60 (sphere-scale60 (ratio60 (which krasovsky)) (m .sphere .k) (meridian60 (square60 (which krasovsky)) (m .sphere .t)) (m .sphere .d2) (spread60 (m .across))) (length60 (parts .first) (parts .slope)))) ⌝ }
+// Scale in units of 10^-9, with the zone's m0 in it, of the derivative's parts.
+pub fn scale_of(zone: Zone, m: Mercator, parts: SlopeParts) -> i64
+    requires { ⌜ Sized zone × SphereSizes (m .sphere) × (m .across ≤ 11 * S60 / 100) × (parts .first ≤ 101 * S60 / 100) × (parts .slope ≤ 30 * S60 / 100000) ⌝ }
+    ensures { λ r. ⌜ r ≡ pos (scale-units (m0-units (natAbs (zone .millionths))) (mul60 (sphere-scale60 (ratio60 (which (zone .krasovsky))) (m .sphere .k) (meridian60 (square60 (which (zone .krasovsky))) (m .sphere .t)) (m .sphere .d2) (spread60 (m .across))) (length60 (parts .first) (parts .slope)))) ⌝ }
 {
-    let shape = fixed_scale::shape60(krasovsky);
+    let shape = fixed_scale::shape60(zone.krasovsky);
     let scale = fixed_scale::scale60(shape, m.sphere, m.across, parts.first, parts.slope);
-    fixed_units::scale_units(scale) as i64
+    fixed_units::scale_units(scale, steps::m0_units(zone)) as i64
 }
 
 // An angle, or its opposite where the flag is set.
@@ -138,11 +138,11 @@ pub fn convergence_of(m: Mercator, west: bool, back: bool, slope: u64) -> i64
 // All four numbers of a located point, of the Gauss-Krüger pair p and the derivative h.
 pub fn point_answer(zone: Zone, at: Located, p: Pair, h: Pair) -> ForwardAnswer
     requires { ⌜ Sized zone × Tame p × Numbers h × Sloped h × SphereSizes (at .mercator .sphere) × (at .mercator .across ≤ 11 * S60 / 100) ⌝ }
-    ensures { λ r. ⌜ ((n : ℕ) (d : ℤ) → LocatedAt (which (zone .krasovsky)) n d at → r ≡ ForwardAnswer.Point (zone .north +ℤ scaled-part (natAbs (zone .millionths)) (value (p .re))) (zone .east +ℤ turned (below-zero d) (scaled-part (natAbs (zone .millionths)) (value (p .im)))) (scale-from (which (zone .krasovsky)) n (natAbs d) h) (convergence-from (which (zone .krasovsky)) n d h)) ⌝ }
+    ensures { λ r. ⌜ ((n : ℕ) (d : ℤ) → LocatedAt (which (zone .krasovsky)) n d at → r ≡ ForwardAnswer.Point (zone .north +ℤ scaled-part (natAbs (zone .millionths)) (value (p .re))) (zone .east +ℤ turned (below-zero d) (scaled-part (natAbs (zone .millionths)) (value (p .im)))) (scale-from (which (zone .krasovsky)) (natAbs (zone .millionths)) n (natAbs d) h) (convergence-from (which (zone .krasovsky)) n d h)) ⌝ }
 {
     let corner = corner_of(zone, at.west, p);
     let parts = steps::slope_parts(h);
-    let scale = scale_of(zone.krasovsky, at.mercator, parts);
+    let scale = scale_of(zone, at.mercator, parts);
     let convergence = convergence_of(at.mercator, at.west, h.im < 0.0, parts.slope);
     ForwardAnswer::Point(corner.x, corner.y, scale, convergence)
 }

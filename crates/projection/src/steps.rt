@@ -7,6 +7,7 @@ ghost use lib.IntN.{pos, natAbs, _+ℤ_};
 ghost use lib.Signed.{_≤ℤ_};
 ghost use Rattle.rules.specs.Scaled.{unit, derivative};
 ghost use Rattle.rules.specs.Systems.{constants, a-coefficients};
+ghost use Rattle.rules.specs.Units.{units-in-scale};
 ghost use Rattle.rules.specs.Polynomial.{double-unit};
 ghost use Rattle.double.specs.Value.{value, Number};
 ghost use Rattle.double.specs.Complex.{horner, Numbers};
@@ -16,6 +17,7 @@ ghost use Rattle.metres.specs.Millimetres.{in-millimetres};
 ghost use Rattle.projection_worked.specs.Bounds.{limit30, Sloped};
 ghost use Rattle.projection_worked.specs.Worked.{scaled-part, first60, slope60};
 ghost use Rattle.fixed.specs.Worked.{S60};
+ghost use Rattle.fixed_units.specs.Worked.{m0-units};
 ghost use Rattle.systems.specs.Zones.{Sized};
 ghost use Rattle.fixed.specs.Nearness.{turned};
 ghost use Rattle.fixed_forward.specs.Ellipsoids.{which};
@@ -85,6 +87,14 @@ pub fn shortfall(millionths: i64) -> u64
     ensures { λ r. ⌜ r ≡ 1000000 - natAbs millionths ⌝ }
 {
     (1_000_000 - millionths) as u64
+}
+
+// The zone's m0 in units of 10^-9, those of a scale.
+pub fn m0_units(zone: Zone) -> u64
+    requires { ⌜ Sized zone ⌝ }
+    ensures { λ r. ⌜ (r ≡ m0-units (natAbs (zone .millionths))) × (r ≤ units-in-scale) ⌝ }
+{
+    1000 * zone.millionths as u64
 }
 
 // A part in metres times m0, which is so many millionths short of 1, in whole millimetres.

@@ -19,7 +19,7 @@ use Rattle.fixed.specs.Laws.Turned.{below-zero}
 use Rattle.fixed_forward.specs.Mercator.{north-of, east-of}
 use Rattle.fixed_scale.specs.Answers.{scale-of}
 use Rattle.fixed_scale.specs.Convergence.{turn-of, convergence60}
-use Rattle.fixed_units.specs.Worked.{scale-units, convergence-units}
+use Rattle.fixed_units.specs.Worked.{scale-units, m0-units, convergence-units}
 
 -- ---- forward
 -- z of a latitude of n ticks and a difference of longitude of d ticks, whatever its side
@@ -77,15 +77,15 @@ slope60 h = quot60 (second41 h) (first41 h)
 abbrev pub below-nought : Float → Bool
 below-nought x = lt x (fin false 0 (pos 0))
 
--- scale in units of 10^-9, and convergence in thousandths of an arc second, of a derivative h
-unfoldable pub scale-from : Ellipsoid → ℕ → ℕ → Pair → ℤ
-scale-from E n d h = pos (scale-units (scale-of E n d (first60 h) (slope60 h)))
+-- scale in units of 10^-9 after m0 of M millionths, and convergence in thousandths of an arc second, of a derivative h
+unfoldable pub scale-from : Ellipsoid → ℕ → ℕ → ℕ → Pair → ℤ
+scale-from E M n d h = pos (scale-units (m0-units M) (scale-of E n d (first60 h) (slope60 h)))
 
 unfoldable pub convergence-from : Ellipsoid → ℕ → ℤ → Pair → ℤ
 convergence-from E n d h = convergence-units (turned (below-zero d) (convergence60 (turn-of E n (natAbs d)) (below-nought (h .im)) (slope60 h)))
 
 unfoldable pub worked-scale : System → ℤ → ℤ → ℤ
-worked-scale s B d = scale-from (s .ellipsoid) (natAbs B) (natAbs d) (slope-pair (s .ellipsoid) (natAbs B) (natAbs d))
+worked-scale s B d = scale-from (s .ellipsoid) (millionths-of s) (natAbs B) (natAbs d) (slope-pair (s .ellipsoid) (natAbs B) (natAbs d))
 
 unfoldable pub worked-convergence : System → ℤ → ℤ → ℤ
 worked-convergence s B d = convergence-from (s .ellipsoid) (natAbs B) d (slope-pair (s .ellipsoid) (natAbs B) (natAbs d))

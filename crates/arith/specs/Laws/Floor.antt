@@ -1,9 +1,9 @@
 -- Laws of division rounded down: it is the only one, it keeps the order, and how far floors are apart. Assumes nothing.
-use mathlib.Core.Path.{_≡_, refl, sym, ap, subst, subst₂}
+use mathlib.Core.Path.{_≡_, refl, sym, _∙_, ap, subst, subst₂}
 use mathlib.Core.List.{[], _∷_}
 use mathlib.Core.Logic.{_↔_, _⊎_, inl, inr}
 use Prim.Native.Nat.{ℕ, suc, _+_, _*_, _/_, _%_, _<_, _≤_}
-use native.Mathlib.Nat.{div-add-mod', mod-lt, lt-of-mul-lt-mul-right, div-div-eq-div-mul}
+use native.Mathlib.Nat.{div-add-mod', mod-lt, lt-of-mul-lt-mul-right, div-div-eq-div-mul, add-mul-div-right}
 use native.Mathlib.Omega.{arith}
 use lib.IntN.{ℤ, pos, negsuc, negℤ, _+ℤ_, _-ℤ_, _*ℤ_, natAbs, *ℤ-comm}
 use lib.Dec.{ltb→lt}
@@ -181,3 +181,13 @@ round-near n d h = go (floor (pos 2 *ℤ n +ℤ pos d) (2 * d)) (floor-is (pos 2
   where
     go : (r : ℤ) → (r *ℤ pos (2 * d)) ≤ℤ (pos 2 *ℤ n +ℤ pos d) → (pos 2 *ℤ n +ℤ pos d) <ℤ ((r +ℤ pos 1) *ℤ pos (2 * d)) → 2 * natAbs (r *ℤ pos d -ℤ n) ≤ d
     go r = lin (n ∷ r ∷ []) λ u v en er. simp (Z·ℕ, en, er) (omega arith)
+
+-- the whole part and the rest, each times k, divide as the product does
+pub divided : (a M k : ℕ) → 0 < M → a / M * k + a % M * k / M ≡ a * k / M
+divided a M k h = sym (ap (λ n. n * k / M) (sym (div-add-mod' a M)) ∙ ap (λ n. n / M) (turn (a / M) (a % M) M k) ∙ add-mul-div-right (a % M * k) (a / M * k) h ∙ swap (a % M * k / M) (a / M * k))
+  where
+    turn : (q r M k : ℕ) → (q * M + r) * k ≡ r * k + q * k * M
+    turn q r M k = omega arith
+
+    swap : (a b : ℕ) → a + b ≡ b + a
+    swap a b = omega arith

@@ -36,9 +36,11 @@ module _ (z : Zone) (s : System) (h : Stands z s) where
       (ap₂ (λ m v. turned (below-zero (l -ℤ m)) v) (sym (h .meridian))
       (ap₂ scaled-part millionths-are (ap₂ (λ E m. value (plane-pair E (natAbs b) (natAbs (l -ℤ m)) .im)) (sym (h .ellipsoid)) (sym (h .meridian)))))
 
-  pub scale-stands : (b l : ℤ) → scale-from (which (z .krasovsky)) (natAbs b) (natAbs (l -ℤ z .meridian)) (slope-pair (which (z .krasovsky)) (natAbs b) (natAbs (l -ℤ z .meridian))) ≡ worked-scale s b (l -ℤ s .L0)
+  pub scale-stands : (b l : ℤ) → scale-from (which (z .krasovsky)) (natAbs (z .millionths)) (natAbs b) (natAbs (l -ℤ z .meridian)) (slope-pair (which (z .krasovsky)) (natAbs b) (natAbs (l -ℤ z .meridian))) ≡ worked-scale s b (l -ℤ s .L0)
   unfolding worked-scale
-  scale-stands b l = ap₂ (λ E m. scale-from E (natAbs b) (natAbs (l -ℤ m)) (slope-pair E (natAbs b) (natAbs (l -ℤ m)))) (sym (h .ellipsoid)) (sym (h .meridian))
+  scale-stands b l =
+      ap₂ (λ E m. scale-from E (natAbs (z .millionths)) (natAbs b) (natAbs (l -ℤ m)) (slope-pair E (natAbs b) (natAbs (l -ℤ m)))) (sym (h .ellipsoid)) (sym (h .meridian))
+      ∙ ap (λ M. scale-from (s .ellipsoid) M (natAbs b) (natAbs (l -ℤ s .L0)) (slope-pair (s .ellipsoid) (natAbs b) (natAbs (l -ℤ s .L0)))) millionths-are
 
   pub convergence-stands : (b l : ℤ) → convergence-from (which (z .krasovsky)) (natAbs b) (l -ℤ z .meridian) (slope-pair (which (z .krasovsky)) (natAbs b) (natAbs (l -ℤ z .meridian))) ≡ worked-convergence s b (l -ℤ s .L0)
   unfolding worked-convergence

@@ -10,7 +10,7 @@ use Rattle.arith.specs.Laws.Ring.{ring, Z·ring, by-ring}
 use Rattle.rules.specs.Units.{_°_′_″, units-in-scale, half-turn-in-thousandths}
 use Rattle.rules.specs.Refusals.{Answer, answered, refused, crossed-at, _>>=_, _>>_, _if_, latitude-outside, longitude-outside, step-not-finite}
 use Rattle.rules.specs.Systems.{_/10^_, System, system, constants, a-coefficients}
-use Rattle.rules.specs.Scaled.{unit, product, radians, sine, cosine, turned-to, polynomial, derivative}
+use Rattle.rules.specs.Scaled.{unit, radians, sine, cosine, turned-to, polynomial, derivative}
 use Rattle.rules.specs.Scaled as scaled
 use Rattle.rules.specs.Rounding.{Within}
 use Rattle.rules.specs.Laws.OwnAnswers.{wider}
@@ -67,8 +67,8 @@ module _ (s : System) (m : Millionths s (millionths-of s)) (B L : ℤ) (h : lati
   scale-right =
       let E = s .ellipsoid in
       let b = other (below-nought (slope-pair E n (natAbs d) .im)) (below-zero d) in
-      subst (λ e. Within 51 (worked-scale s B d) (pos units-in-scale *ℤ product (product (Unrounded.sphere-scale (constants E) (sphere-at E n) (sine (radians (pos n))) (cosine (radians (pos n)))) (Unrounded.mercator-scale (sphere-at E n) (sine (radians e)))) (Unrounded.polynomial-scale derived))) (turned-size d)
-      (scale-band E n latitude (below-zero d) (natAbs d) g b derived (first-fixed E n d latitude g) (slope-fixed E n d latitude g))
+      subst (λ e. Within 51 (worked-scale s B d) (pos units-in-scale *ℤ Unrounded.scale-of (constants E) (pos (millionths-of s * 10 ^ 18)) (sphere-at E n) (sine (radians (pos n))) (cosine (radians (pos n))) (sine (radians e)) derived)) (turned-size d)
+      (scale-band E (millionths-of s) (m .high) n latitude (below-zero d) (natAbs d) g b derived (first-fixed E n d latitude g) (slope-fixed E n d latitude g))
 
   convergence-right : Within 51 (worked-convergence s B d) (defined .convergence)
   unfolding worked-convergence convergence-from Unrounded.forward-from mercator-at sphere-at

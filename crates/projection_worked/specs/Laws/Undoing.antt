@@ -22,16 +22,6 @@ word n k h t = v-is (toZ-pos w64 n (below h (ltb→lt k (2 ^ 63) t))) h
     below : {n k : ℕ} → n ≤ k → k < 2 ^ 63 → n < 2 ^ 63
     below h l = omega arith
 
--- the whole part and the rest, each times k, divide as the product does
-pub divided : (a M k : ℕ) → 0 < M → a / M * k + a % M * k / M ≡ a * k / M
-divided a M k h = sym (ap (λ n. n * k / M) (sym (div-add-mod' a M)) ∙ ap (λ n. n / M) (turn (a / M) (a % M) M k) ∙ add-mul-div-right (a % M * k) (a / M * k) h ∙ swap (a % M * k / M) (a / M * k))
-  where
-    turn : (q r M k : ℕ) → (q * M + r) * k ≡ r * k + q * k * M
-    turn q r M k = omega arith
-
-    swap : (a b : ℕ) → a + b ≡ b + a
-    swap a b = omega arith
-
 -- how large they are
 pub whole-small : (a M : ℕ) → a ≤ 10000000000000 → 999000 ≤ M → a / M ≤ 10010011
 whole-small a M h l = go (a / M) (mul-le-mul-left (a / M) l) (le-trans (div-mul-le-self a M) h)

@@ -19,7 +19,7 @@ use Rattle.fixed_scale.specs.Answers.{scale-of, scale-is, turn-is}
 use Rattle.fixed_scale.specs.Scale.{square60, ratio60, meridian60, spread60, sphere-scale60}
 use Rattle.fixed_scale.specs.Length.{length60}
 use Rattle.fixed_scale.specs.Convergence.{sine-f60, turn60, turn-of, convergence60}
-use Rattle.fixed_units.specs.Worked.{scale-units, convergence-units}
+use Rattle.fixed_units.specs.Worked.{scale-units, m0-units, convergence-units}
 use Rattle.projection_worked.specs.Worked.{scaled-part, first60, slope60, below-nought, scale-from, convergence-from}
 use Rattle.projection.specs.Located.{LocatedAt}
 use Rattle.projection.proofs.Checking.{four}
@@ -33,10 +33,10 @@ use Rattle.projection.proofs.onward.corner_of.Reads as corner-of-reads
 use Rattle.projection.proofs.onward.scale_of.Reads as scale-of-reads
 use Rattle.projection.proofs.steps.slope_parts.Reads as slope-parts-reads
 
-scale-there : {r : Mercator} {first slope : ℕ} (E : Ellipsoid) (n : ℕ) (d : ℕ) (h : Pair) → IsMercator E n d r → first ≡ first60 h → slope ≡ slope60 h
-    → pos (scale-units (mul60 (sphere-scale60 (ratio60 E) (r .sphere .k) (meridian60 (square60 E) (r .sphere .t)) (r .sphere .d2) (spread60 (r .across))) (length60 first slope))) ≡ scale-from E n d h
+scale-there : {r : Mercator} {first slope : ℕ} (E : Ellipsoid) (M n d : ℕ) (h : Pair) → IsMercator E n d r → first ≡ first60 h → slope ≡ slope60 h
+    → pos (scale-units (m0-units M) (mul60 (sphere-scale60 (ratio60 E) (r .sphere .k) (meridian60 (square60 E) (r .sphere .t)) (r .sphere .d2) (spread60 (r .across))) (length60 first slope))) ≡ scale-from E M n d h
 unfolding scale-from
-scale-there {first = first} {slope} E n d h i e f = ap (λ x. pos (scale-units x)) (scale-is E n d first slope i ∙ ap₂ (scale-of E n d) e f)
+scale-there {first = first} {slope} E M n d h i e f = ap (λ x. pos (scale-units (m0-units M) x)) (scale-is E n d first slope i ∙ ap₂ (scale-of E n d) e f)
 
 convergence-there : {r : Mercator} {west : Bool} {slope : ℕ} (E : Ellipsoid) (n : ℕ) (d : ℤ) (h : Pair) → IsMercator E n (natAbs d) r → west ≡ below-zero d → slope ≡ slope60 h
     → convergence-units (turned west (convergence60 (turn60 (sine-f60 (r .sphere .n2) (r .sphere .d2)) (r .sphere .sd) (r .sphere .cd)) (below-nought (h .im)) slope)) ≡ convergence-from E n d h
@@ -68,7 +68,7 @@ returns c n d at =
     let f = v .before .slope-parts in
     four (v-in w64 (o .result .x) (o .ensures .1 .0) tt .is ∙ o .ensures .0 .0)
     (v-in w64 (o .result .y) (o .ensures .1 .1) tt .is ∙ o .ensures .0 .1 ∙ ap (λ w. a .zone .east +ℤ turned w (scaled-part (natAbs (a .zone .millionths)) (value (a .p .im)))) (at .side))
-    (toZ-ofZ (record { sfits = v .scale-of .ok }) ∙ v .scale-of .ensures ∙ scale-there (which (a .zone .krasovsky)) n (natAbs d) (a .h) (at .is) (f .ensures .0 .0) (f .ensures .0 .1))
+    (toZ-ofZ (record { sfits = v .scale-of .ok }) ∙ v .scale-of .ensures ∙ scale-there (which (a .zone .krasovsky)) (natAbs (a .zone .millionths)) n (natAbs d) (a .h) (at .is) (f .ensures .0 .0) (f .ensures .0 .1))
     (toZ-ofZ (record { sfits = g .convergence-of .ok }) ∙ g .convergence-of .ensures ∙ convergence-there (which (a .zone .krasovsky)) n d (a .h) (at .is) (at .side) (f .ensures .0 .1))
 
 pub point-answer-spec : {M : Type 1} → statement M

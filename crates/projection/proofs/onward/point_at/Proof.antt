@@ -111,7 +111,7 @@ returns c s h =
     ∙ four
     (ap (λ (p : Pair). z .north +ℤ scaled-part (natAbs (z .millionths)) (value (p .re))) (pair-is a) ∙ X-stands z s h (b a) l)
     (ap (λ (p : Pair). z .east +ℤ turned (below-zero (d a)) (scaled-part (natAbs (z .millionths)) (value (p .im)))) (pair-is a) ∙ Y-stands z s h (b a) l)
-    (ap (scale-from (which (z .krasovsky)) (natAbs (b a)) (natAbs (d a))) (slope-is a) ∙ scale-stands z s h (b a) l)
+    (ap (scale-from (which (z .krasovsky)) (natAbs (z .millionths)) (natAbs (b a)) (natAbs (d a))) (slope-is a) ∙ scale-stands z s h (b a) l)
     (ap (convergence-from (which (z .krasovsky)) (natAbs (b a)) (d a)) (slope-is a) ∙ convergence-stands z s h (b a) l)
 
 returns-2 : tie.Need-returns-2

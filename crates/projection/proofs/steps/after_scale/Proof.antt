@@ -5,11 +5,7 @@ use lib.Dec.{leb→le}
 use lib.IntN.{ℤ, pos, negsuc, natAbs}
 use Rattle.rules.specs.Polynomial.{double-unit}
 use lib.Signed.{_≤ℤ_}
-use mir.Syntax.{w64}
-use mir.Val.{toZ, ofZ}
 use mir.Facts.{toZ-ofZ}
-use Rattle.arith.specs.Laws.Machine.{v-in}
-use Rattle.arith.specs.Laws.Order.{≤ℤ-trans, nn-num}
 use Rattle.rules.specs.Scaled.{unit}
 use Rattle.double.specs.Value.{value}
 use Rattle.metres.specs.Millimetres.{in-millimetres}
@@ -17,19 +13,13 @@ use Rattle.systems.specs.Zones.{Sized}
 use Rattle.systems.specs.declared.Zone.{Zone}
 use Rattle.projection_worked.specs.Worked.{scaled-part}
 use Rattle.projection_worked.specs.Laws.Millimetres.{scale-of, millimetres-size}
+use Rattle.projection.proofs.Parts.{millionths-given, millionths-positive}
 use Rattle.projection.proofs.steps.after_scale.Statement.{statement}
 use Rattle.projection.proofs.steps.after_scale.Tie as tie
 use Rattle.projection.proofs.steps.after_scale.Reads as reads
 use Rattle.projection.proofs.steps.after_scale.Lts as lts
 use Rattle.projection.proofs.steps.part_millimetres.Reads as part-millimetres-reads
 use Rattle.projection.proofs.steps.shortfall.Reads as shortfall-reads
-
--- m0's millionths, as they are passed on, and their range
-given : (z : Zone) → Sized z → toZ w64 (ofZ w64 (z .millionths)) ≡ z .millionths
-given z h = v-in w64 (z .millionths) (h .millionths) tt .is
-
-positive : (z : Zone) → Sized z → pos 0 ≤ℤ z .millionths
-positive z h = ≤ℤ-trans (record { le = tt }) (h .millionths-positive)
 
 short : (z : Zone) → Sized z → 1000000 - natAbs (z .millionths) ≤ 1000
 short z h = go (z .millionths) (h .millionths-positive)
@@ -45,16 +35,16 @@ size z v h g = let m = h .millionths in millimetres-size (natAbs (z .millionths)
     go M h = omega arith
 
 shortfall-requires : tie.Need-shortfall-requires
-shortfall-requires c κs = let e = given (c .before .args .zone) (c .before .pre .0) in (rw e (positive (c .before .args .zone) (c .before .pre .0)), rw e (c .before .pre .0 .millionths))
+shortfall-requires c κs = let e = millionths-given (c .before .args .zone) (c .before .pre .0) in (rw e (millionths-positive (c .before .args .zone) (c .before .pre .0)), rw e (c .before .pre .0 .millionths))
 
 part-millimetres-requires : tie.Need-part-millimetres-requires
-part-millimetres-requires c κs = (c .before .before .pre .1, c .before .before .pre .2, rw (c .shortfall .ensures ∙ ap (λ z. 1000000 - natAbs z) (given (c .before .before .args .zone) (c .before .before .pre .0))) (short (c .before .before .args .zone) (c .before .before .pre .0)))
+part-millimetres-requires c κs = (c .before .before .pre .1, c .before .before .pre .2, rw (c .shortfall .ensures ∙ ap (λ z. 1000000 - natAbs z) (millionths-given (c .before .before .args .zone) (c .before .before .pre .0))) (short (c .before .before .args .zone) (c .before .before .pre .0)))
 
 returns : tie.Need-returns
 unfolding scaled-part
 returns c =
     let b = c .before .before .before in
-    let e = toZ-ofZ (record { sfits = c .part-millimetres .ok }) ∙ c .part-millimetres .ensures ∙ ap (λ s. in-millimetres (value (b .args .p)) s 1000) (c .before .shortfall .ensures ∙ ap (λ z. 1000000 - natAbs z) (given (b .args .zone) (b .pre .0))) in
+    let e = toZ-ofZ (record { sfits = c .part-millimetres .ok }) ∙ c .part-millimetres .ensures ∙ ap (λ s. in-millimetres (value (b .args .p)) s 1000) (c .before .shortfall .ensures ∙ ap (λ z. 1000000 - natAbs z) (millionths-given (b .args .zone) (b .pre .0))) in
     (e, rw e (size (b .args .zone) (value (b .args .p)) (b .pre .0) (b .pre .2)))
 
 pub after-scale-spec : {M : Type 1} → statement M

@@ -2,7 +2,8 @@
 use Prim.Native.Nat.{ℕ, _+_, _*_, _%_, _/_, _^_, _≤_, _<_}
 use native.Mathlib.Omega.{arith}
 use Rattle.projection_worked.specs.Inverse.{undone30}
-use Rattle.projection_worked.specs.Laws.Undoing.{divided, whole-small, rest-small, part-small}
+use Rattle.arith.specs.Laws.Floor.{divided}
+use Rattle.projection_worked.specs.Laws.Undoing.{whole-small, rest-small, part-small}
 use borrow.Author.Needs.{needs}
 use Rattle.projection_inverse.proofs.backward.undone.Statement.{statement}
 use Rattle.projection_inverse.proofs.backward.undone.Tie as tie
