@@ -1,4 +1,4 @@
--- Document 01 as definitions. Each file stands for a section of the paper and quotes its sentences above the definitions that say them.
+-- Documents 01 and 02 as definitions. Each file stands for a section of paper 01 and quotes its sentences, and those of 02 that change it, above the definitions that say them.
 --   01, Units                            Units
 --   01, The systems                      Systems
 --   01, The projection as whole numbers  Scaled (arithmetic, series), Projection (forward, inverse), Rounding (nearest, the band), Polynomial (the step in f64),

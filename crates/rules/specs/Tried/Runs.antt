@@ -1,4 +1,4 @@
--- 01, Numbers to try, "Run:", of the definitions themselves, with the refusals' order and the rounding. Assumes nothing.
+-- 01, Numbers to try, "Run:", and 02 (ii), of the definitions themselves, with the refusals' order and the rounding. Assumes nothing.
 use mathlib.Core.Path.{_≡_}
 use mathlib.Core.Bool.{false}
 use mathlib.Core.List.{List, [], _∷_, map}
@@ -7,7 +7,7 @@ use lib.IntN.{ℤ, pos, negℤ}
 use lib.ListN.{replicate}
 use Rattle.rules.specs.Units.{_°_′_″}
 use Rattle.rules.specs.Refusals.{Answer, answered, refused, passed}
-use Rattle.rules.specs.Systems.{_/10^_}
+use Rattle.rules.specs.Systems.{_/10^_, table}
 use Rattle.rules.specs.Scaled.{one, sqrt, quotient}
 use Rattle.rules.specs.Points as P
 use Rattle.rules.specs.RingAnswers as N
@@ -75,3 +75,11 @@ pub record Runs : Type 0 where
       ≡ record { first = negℤ (pos (2 * double-unit ^ 2)); second = pos (2 * double-unit ^ 2) }
   -- "d = 0 gives Y = y0 exactly" (of every point: Laws.Meridian)
   pub d-0 : east (P.forward 14 (pos (52 ° 0 ′ 0 ″)) (pos (18 ° 57 ′ 30 ″))) ≡ pos 237_000_000
+  -- 02 (ii): "999923000 for code 2, 999300000 for code 1", and the others (that every point of a meridian gets it: projection_worked, Laws.Meridian)
+  pub m0-answers : map P.m0-answered table
+      ≡ pos 999_300_000
+      ∷ pos 999_923_000 ∷ pos 999_923_000 ∷ pos 999_923_000 ∷ pos 999_923_000
+      ∷ pos 999_600_000 ∷ pos 999_600_000
+      ∷ pos 1_000_000_000 ∷ pos 1_000_000_000 ∷ pos 1_000_000_000 ∷ pos 1_000_000_000 ∷ pos 1_000_000_000 ∷ pos 1_000_000_000
+      ∷ pos 999_983_000
+      ∷ []

@@ -41,4 +41,5 @@ runs = record {
   exact-1 = refl;
   exact-i = refl;
   d-0 = refl;
+  m0-answers = refl;
 }

@@ -1,0 +1,68 @@
+-- 02 (ii): on the central meridian the scale answered is m0 itself, in every code and on every latitude that is taken: by the worked value and by the definition. Assumes
+-- nothing.
+use mathlib.Core.Bool.{true, false}
+use mathlib.Core.Path.{_≡_, refl, sym, _∙_, ap, subst}
+use mathlib.Core.List.{[], _∷_}
+use Prim.Native.Nat.{ℕ, _*_, _^_, _≤_}
+use native.Mathlib.Nat.{le-of-eq}
+use native.Mathlib.Omega.{arith}
+use lib.IntN.{ℤ, pos, natAbs, _-ℤ_, _*ℤ_}
+use Rattle.arith.specs.Laws.Ring.{ring, Z·ring, by-ring, ev-num}
+use Rattle.rules.specs.Units.{units-in-scale}
+use Rattle.rules.specs.Refusals.{Answer, answered}
+use Rattle.rules.specs.Systems.{System, system}
+use Rattle.rules.specs.Scaled.{unit}
+use Rattle.rules.specs.Rounding.{nearest, Within}
+use Rattle.rules.specs.Projection as Unrounded
+use Rattle.rules.specs.Points.{Point, latitude-bad, longitude-bad, forward-checks, forward, m0-answered, Scale-on-the-meridian, Right-forward, Right-forward-by}
+use Rattle.rules.specs.Laws.Checks.{longitude-exact, forward-passes}
+use Rattle.rules.specs.Laws.Meridian.{none-left}
+use Rattle.rules.specs.Laws.OwnAnswers.{alone, nearest-within, forward-is-right}
+use Rattle.meridian.specs.Laws.Scale.{scale-near-m0}
+use Rattle.projection_worked.specs.Worked.{millionths-of, forward-finite, worked-forward}
+use Rattle.projection_worked.specs.Laws.Finite.{latitude-taken}
+use Rattle.projection_worked.specs.Laws.InverseBox.{Millionths, system-millionths}
+use Rattle.projection_worked.specs.Laws.Point.{forward-right, forward-always-finite}
+
+-- m0 is a whole number of the answer's units, so it is answered as it is
+whole : (s : System) (M : ℕ) → s .m0 ≡ pos (M * 10 ^ 18) → pos (1000 * M) ≡ m0-answered s
+unfolding m0-answered
+whole s M e = alone (pos (1000 * M)) (nearest (pos units-in-scale *ℤ s .m0)) (pos units-in-scale *ℤ s .m0) (subst (λ m. Within 0 (pos (1000 * M)) (pos units-in-scale *ℤ m)) (sym e) exact) (nearest-within (pos units-in-scale *ℤ s .m0)) tt
+  where
+    -- 10^9 are a·v, m0 is M·b, and the unit is b·v
+    law : (M a v b : ℤ) → (a *ℤ M) *ℤ (b *ℤ v) -ℤ (a *ℤ v) *ℤ (M *ℤ b) ≡ pos 0
+    law M a v b = ring (M ∷ a ∷ v ∷ b ∷ []) λ ρ e1 e2 e3 e4. simp (Z·ring, ev-num ρ, e1, e2, e3, e4) (by-ring _ _ _ refl)
+
+    exact : Within 0 (pos (1000 * M)) (pos units-in-scale *ℤ pos (M * 10 ^ 18))
+    exact = record { bound = le-of-eq (ap (λ z. 100 * natAbs z) (law (pos M) (pos 1000) (pos 1000000) (pos (10 ^ 18)))) }
+
+module _ (code : ℕ) (s : System) (B : ℤ) (e : system code ≡ answered s) (h : latitude-bad B ≡ false) where
+  abbrev Answered : Answer Point → Type 0
+  Answered r = (p : Point) × (r ≡ answered p) × (p .scale ≡ m0-answered s)
+
+  not-outside : longitude-bad s (s .L0) ≡ false
+  not-outside = longitude-exact s (s .L0) .1 (subst (λ z. natAbs z ≤ s .half-width) (sym (none-left (s .L0))) (none (s .half-width)))
+    where
+      none : (n : ℕ) → 0 ≤ n
+      none n = omega arith
+
+  taken : forward-checks true code B (s .L0) ≡ answered s
+  taken = forward-passes true code s B (s .L0) e h not-outside refl
+
+  -- what is right there has m0 for its scale
+  right-there : (r : Answer Point) → Right-forward true code B (s .L0) r → Answered r
+  right-there r right = go (subst (λ a. Right-forward-by B (s .L0) a r) taken right)
+    where
+      go : Right-forward-by B (s .L0) (answered s) r → Answered r
+      go a =
+          let m = system-millionths code s e in
+          let b = latitude-taken B h in
+          (a .0, a .1, alone (a .0 .scale) (pos (1000 * millionths-of s)) (Unrounded.forward s B (s .L0) .scale) (a .2 .scale)
+          (subst (λ x. Within 2 (pos (1000 * millionths-of s)) (Unrounded.forward s x (s .L0) .scale)) (sym (b .0)) (scale-near-m0 s (millionths-of s) (m .is) (m .high) (natAbs B) (b .1))) tt
+          ∙ whole s (millionths-of s) (m .is))
+
+pub worked-meridian : Scale-on-the-meridian worked-forward
+worked-meridian code s B e h = right-there code s B e h (worked-forward code B (s .L0)) (subst (λ f. Right-forward f code B (s .L0) (worked-forward code B (s .L0))) (forward-always-finite code B (s .L0) s e h (not-outside code s B e h)) (forward-right code B (s .L0)))
+
+pub defined-meridian : Scale-on-the-meridian forward
+defined-meridian code s B e h = right-there code s B e h (forward code B (s .L0)) (forward-is-right code B (s .L0))
