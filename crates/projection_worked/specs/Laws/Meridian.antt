@@ -49,20 +49,23 @@ module _ (code : ℕ) (s : System) (B : ℤ) (e : system code ≡ answered s) (h
   taken : forward-checks true code B (s .L0) ≡ answered s
   taken = forward-passes true code s B (s .L0) e h not-outside refl
 
+  near-m0 : Within 2 (pos (1000 * millionths-of s)) (Unrounded.forward s B (s .L0) .scale)
+  near-m0 =
+      let m = system-millionths code s e in
+      let b = latitude-taken B h in
+      subst (λ x. Within 2 (pos (1000 * millionths-of s)) (Unrounded.forward s x (s .L0) .scale)) (sym (b .0)) (scale-near-m0 s (millionths-of s) (m .is) (m .high) (natAbs B) (b .1))
+
   -- what is right there has m0 for its scale
   right-there : (r : Answer Point) → Right-forward true code B (s .L0) r → Answered r
   right-there r right = go (subst (λ a. Right-forward-by B (s .L0) a r) taken right)
     where
       go : Right-forward-by B (s .L0) (answered s) r → Answered r
-      go a =
-          let m = system-millionths code s e in
-          let b = latitude-taken B h in
-          (a .0, a .1, alone (a .0 .scale) (pos (1000 * millionths-of s)) (Unrounded.forward s B (s .L0) .scale) (a .2 .scale)
-          (subst (λ x. Within 2 (pos (1000 * millionths-of s)) (Unrounded.forward s x (s .L0) .scale)) (sym (b .0)) (scale-near-m0 s (millionths-of s) (m .is) (m .high) (natAbs B) (b .1))) tt
-          ∙ whole s (millionths-of s) (m .is))
+      go a = (a .0, a .1, alone (a .0 .scale) (pos (1000 * millionths-of s)) _ (a .2 .scale) near-m0 tt ∙ whole s (millionths-of s) (system-millionths code s e .is))
 
 pub worked-meridian : Scale-on-the-meridian worked-forward
-worked-meridian code s B e h = right-there code s B e h (worked-forward code B (s .L0)) (subst (λ f. Right-forward f code B (s .L0) (worked-forward code B (s .L0))) (forward-always-finite code B (s .L0) s e h (not-outside code s B e h)) (forward-right code B (s .L0)))
+worked-meridian code s B e h =
+    let r = worked-forward code B (s .L0) in
+    right-there code s B e h r (subst (λ f. Right-forward f code B (s .L0) r) (forward-always-finite code B (s .L0) s e h (not-outside code s B e h)) (forward-right code B (s .L0)))
 
 pub defined-meridian : Scale-on-the-meridian forward
 defined-meridian code s B e h = right-there code s B e h (forward code B (s .L0)) (forward-is-right code B (s .L0))
