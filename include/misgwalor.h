@@ -16,7 +16,8 @@
  *    shared.
  *
  * Units: angles in ticks, whole millionths of an arc second (one degree is 3600000000); plane in whole millimetres, X north and Y east; scale in units
- * of 10^-9; convergence in thousandths of an arc second, positive east of the central meridian.
+ * of 10^-9; convergence in thousandths of an arc second, positive east of the central meridian. The scale is the grid's, a length in the plane by that on the
+ * ellipsoid: the system's m0 is in it, so on the central meridian it is m0 itself, 999923000 in codes 2 to 5.
  *
  * A ring is a list of corners, X and Y of each in turn, so `numbers` is twice the count of corners. The last corner is joined to the first, which is not
  * repeated. Edge k runs from corner k to the next; edges and corners are counted from 0.
@@ -55,7 +56,7 @@ extern "C" {
 
 /*
  * Latitude B and longitude L to the plane of a system.
- * answer: X, Y, scale, convergence, each within 0.6 of its unit of the published procedure as document 01 writes it out.
+ * answer: X, Y, scale, convergence, each within 0.6 of its unit of the published procedure as document 01 writes it out, with m0 in the scale.
  * Refusals, in this order: 1, 2, 3, 10. On a refusal answer holds what it held.
  */
 uint8_t misgwalor_forward(uint8_t code, int64_t b, int64_t l, int64_t answer[4]);

@@ -2,7 +2,7 @@
 
     python3 reference/definition_against_truth.py [STEPS]
 
-Differences are in the units of the answers. The answers are held to the definition by the band of 0.6; this says what the judgement by true functions adds
+Differences are in the units of the answers; a last line says how far the scale before m0 lies from 1 on the central meridian. The answers are held to the definition by the band of 0.6; this says what the judgement by true functions adds
 to it. Assumes Python 3.9 or newer and its standard library.
 """
 
@@ -46,6 +46,12 @@ def box_grid(system, steps):
             yield int(1000 * system.x0 + m0 * north), int(1000 * system.y0 + m0 * east)
 
 
+def beside_one(system):
+    """How far the scale before m0 lies from 1 on the central meridian, the most of every whole minute of latitude."""
+    scales = [definition.forward(system, 48 * DEGREE + DEGREE * minute // 60, system.L0)[2] for minute in range(8 * 60 + 1)]
+    return max(abs(Decimal(scale) / (10**9 * definition.scaled(system.m0)) - 1) for scale in scales)
+
+
 def largest(differences):
     return [max(column) for column in zip(*differences)]
 
@@ -56,6 +62,7 @@ def main(steps):
         there = largest([forward_difference(system, B, L) for B, L in forward_grid(system, steps)])
         back = largest([inverse_difference(system, X, Y) for X, Y in box_grid(system, steps)])
         print("%4d %s" % (system.code, " ".join("%7.1e" % value for value in there + back)))
+    print("scale before m0, on the central meridian at every whole minute: %.1e from 1 on GRS-80, %.1e on Krasovsky" % (beside_one(SYSTEMS[1]), beside_one(SYSTEMS[8])))
 
 
 if __name__ == "__main__":

@@ -134,6 +134,16 @@ void point_cases(uint64_t rounds) {
     }
 }
 
+/* ---- the central meridian: d = 0 gives Y = y0 exactly and no convergence, and the scale is m0 itself */
+
+static void try_meridian(uint8_t code, int64_t b) {
+    const struct system_row *system = system_of(code);
+    int64_t *answer = lend(ANSWER, 4), numbers[2] = {code, b}, m0 = (int64_t)llroundl(system->m0 * 1000000000);
+    uint8_t returned = misgwalor_forward(code, b, meridian_ticks(system), answer);
+    int right = returned == 0 && answer[1] == (int64_t)system->y0 * 1000 && answer[2] == m0 && answer[3] == 0;
+    judge(right && lend_kept(ANSWER, 4), FORWARD, returned, "central meridian, B", numbers, 2);
+}
+
 /* ---- the numbers to run of document 01 */
 
 static void expect_forward(int returned, uint8_t code, int64_t b, int64_t l) {
@@ -150,10 +160,7 @@ void known_points(void) {
     expect_forward(1, 0, 52 * DEGREE, 19 * DEGREE);
     expect_forward(1, 15, 52 * DEGREE, 19 * DEGREE);
     for (uint8_t code = 1; code <= 14; code++) {
-        /* d = 0 gives Y = y0 exactly, and no convergence */
-        const struct system_row *system = system_of(code);
-        int64_t *answer = lend(ANSWER, 4), numbers[1] = {code};
-        uint8_t returned = misgwalor_forward(code, random_between(48 * DEGREE, 56 * DEGREE), meridian_ticks(system), answer);
-        judge(returned == 0 && answer[1] == (int64_t)system->y0 * 1000 && answer[3] == 0, FORWARD, returned, "central meridian", numbers, 1);
+        try_meridian(code, random_between(48 * DEGREE, 56 * DEGREE));
+        for (int64_t b = 48 * DEGREE; b <= 56 * DEGREE; b += DEGREE / 60) try_meridian(code, b);
     }
 }

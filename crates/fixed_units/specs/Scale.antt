@@ -8,7 +8,7 @@ use native.Mathlib.Nat.{mod-lt, div-add-mod'}
 use native.Mathlib.Omega.{arith}
 use lib.Dec.{lit<}
 use lib.IntN.{ℤ, pos, _+ℤ_, _-ℤ_, _*ℤ_}
-use Rattle.arith.specs.Laws.Ring.{ring, Z·ring, by-ring, ev-num}
+use Rattle.arith.specs.Laws.Ring.{ring, Z·ring, by-ring}
 use Rattle.arith.specs.Within as A
 use Rattle.arith.specs.Laws.Within.{w-num, w-add, w-sub, w-mul}
 use Rattle.rules.specs.Units.{_°_′_″, units-in-scale}

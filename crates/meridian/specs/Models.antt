@@ -4,7 +4,7 @@ use mathlib.Core.Bool.{Bool}
 use mathlib.Core.List.{List, [], _∷_}
 use Prim.Native.Nat.{ℕ, zero, suc, _+_, _*_, _-_, _/_, _^_}
 use lib.Dec.{leb, ltb}
-use lib.IntN.{ℤ, pos, negsuc, natAbs, _-ℤ_, _*ℤ_}
+use lib.IntN.{ℤ, pos, negsuc, natAbs}
 use Rattle.arith.specs.Floor.{floor}
 use Rattle.rules.specs.Systems.{_/10^_, Constants, Ellipsoid, constants, a-coefficients}
 use Rattle.rules.specs.Scaled.{unit, one, at-52, tan-52, odd-fractions, derivative}

@@ -1,5 +1,5 @@
 -- `fixed_units::scale_units` meets its contract. Assumes nothing.
-use mathlib.Core.Path.{_≡_, _∙_, ap}
+use mathlib.Core.Path.{_∙_, ap}
 use Prim.Native.Nat.{ℕ, _+_, _*_, _/_, _%_, _^_, _≤_}
 use native.Mathlib.Nat.{mul-le-mul, le-of-lt, mod-lt}
 use native.Mathlib.Omega.{arith}

@@ -1,5 +1,4 @@
 -- Every band of either ellipsoid passes its test, by computing. Assumes nothing.
-use Prim.Native.Nat.{ℕ}
 use lib.Dec.{T}
 use Rattle.rules.specs.Systems.{Ellipsoid, GRS-80, Krasovsky}
 use Rattle.fixed_bands.specs.Tests.{every}

@@ -10,7 +10,7 @@ use lib.IntN.{ℤ, pos, negsuc, negℤ, natAbs, _+ℤ_, _-ℤ_, _*ℤ_, *ℤ-com
 use lib.Signed.{_≤ℤ_}
 use Rattle.arith.specs.Laws.Diff.{_⊖_, Z·ℕ, lin}
 use Rattle.arith.specs.Laws.Order.{abs-mul, nn-num, ≤ℤ-trans, mul-nonneg-nonpos}
-use Rattle.arith.specs.Laws.Ring.{ring, Z·ring, by-ring, ev-num}
+use Rattle.arith.specs.Laws.Ring.{ring, Z·ring, by-ring}
 use Rattle.arith.specs.Within.{Within}
 use Rattle.arith.specs.Laws.Within.{by-abs, w-num, w-add, w-sub, w-neg, w-mul}
 use Rattle.rules.specs.Scaled.{unit, root, sqrt, quotient}

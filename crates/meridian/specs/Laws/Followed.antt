@@ -2,7 +2,6 @@
 use mathlib.Core.Path.{_≡_, refl, sym, _∙_, ap, subst}
 use mathlib.Core.List.{List, [], _∷_}
 use Prim.Native.Nat.{ℕ, _+_, _*_, _/_, _<_, _≤_}
-use native.Mathlib.Nat.{le-trans}
 use lib.Dec.{T, leb→le, lit<, lit≤}
 use lib.IntN.{ℤ, pos, _+ℤ_, _-ℤ_, _*ℤ_}
 use Rattle.arith.specs.Laws.Ring.{ring, Z·ring, by-ring, ev-num}
@@ -10,11 +9,11 @@ use Rattle.arith.specs.Within.{Within}
 use Rattle.arith.specs.Laws.Within.{w-add}
 use Rattle.rules.specs.Systems.{_/10^_, Constants, a-coefficients}
 use Rattle.rules.specs.Scaled.{unit, one, product, quotient, sqrt, tan-52, arctan-about-52, Pair, polynomial, derivative}
-use Rattle.rules.specs.Projection.{K-of, Sphere, sphere, mercator, centred, two-millionths, N-of, sphere-scale, lifted}
+use Rattle.rules.specs.Projection.{K-of, Sphere, sphere, mercator, centred, two-millionths, N-of, sphere-scale}
 use Rattle.rules.specs.Laws.Meridian.{flat-mercator, straight-slope}
 use Rattle.fixed.specs.Laws.Bounds.{w-div, w-same, w-up}
 use Rattle.fixed_bands.specs.Worked.{width}
-use Rattle.fixed_bands.specs.Polynomials.{at, reach, minus, at-reach, at-minus}
+use Rattle.fixed_bands.specs.Polynomials.{at, minus, at-reach, at-minus}
 use Rattle.fixed_bands.specs.Models.{Model, fine, still, sum, product-model, Follows, follows-still, follows-difference, follows-product}
 use Rattle.fixed_bands.specs.Functions.{K-model, follows-K}
 use Rattle.fixed_bands.specs.Rows.{first-of, second-of}

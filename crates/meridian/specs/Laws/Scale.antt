@@ -6,8 +6,8 @@ use Prim.Native.Nat.{ℕ, _+_, _*_, _-_, _/_, _%_, _^_, _<_, _≤_}
 use native.Mathlib.Nat.{le-trans, le-of-eq, div-add-mod'}
 use native.Mathlib.Omega.{arith}
 use lib.Dec.{lit<, lit≤}
-use lib.IntN.{ℤ, pos, natAbs, _+ℤ_, _-ℤ_, _*ℤ_}
-use Rattle.arith.specs.Laws.Ring.{ring, Z·ring, by-ring, ev-num}
+use lib.IntN.{ℤ, pos, natAbs, _-ℤ_, _*ℤ_}
+use Rattle.arith.specs.Laws.Ring.{ring, Z·ring, by-ring}
 use Rattle.arith.specs.Laws.Order.{abs-sub-comm}
 use Rattle.arith.specs.Within as A
 use Rattle.arith.specs.Laws.Within.{w-num, w-sub, w-mul}

@@ -1,11 +1,11 @@
 -- The models of the definition's other steps: the alternating series, the polynomial at a real number, and what goes before the roots and quotients. Assumes nothing.
-use mathlib.Core.Path.{_≡_, refl, sym, _∙_, ap, ap₂, subst}
+use mathlib.Core.Path.{_≡_, refl, sym, _∙_, ap, subst}
 use mathlib.Core.List.{List, [], _∷_}
 use Prim.Native.Nat.{ℕ, _≤_}
 use lib.IntN.{ℤ, pos, _+ℤ_, _-ℤ_, _*ℤ_}
 use Rattle.arith.specs.Laws.Ring.{ring, Z·ring, by-ring, ev-num}
 use Rattle.rules.specs.Systems.{_/10^_, Constants, a-coefficients}
-use Rattle.rules.specs.Scaled.{one, product, alternating, arctan, odd-fractions, at-52, tan-52, arctan-about-52, quotient, Pair, plus, times, polynomial-from, polynomial, derivative}
+use Rattle.rules.specs.Scaled.{one, product, alternating, arctan, odd-fractions, at-52, tan-52, Pair, plus, times, polynomial-from, polynomial, derivative}
 use Rattle.rules.specs.Projection.{lifted, two-millionths}
 use Rattle.rules.specs.Laws.Meridian.{zero-product, flat-times}
 use Rattle.fixed_bands.specs.Worked.{width}

@@ -19,9 +19,9 @@ use Rattle.rules.specs.Laws.Checks.{longitude-exact, forward-passes}
 use Rattle.rules.specs.Laws.Meridian.{none-left}
 use Rattle.rules.specs.Laws.OwnAnswers.{alone, nearest-within, forward-is-right}
 use Rattle.meridian.specs.Laws.Scale.{scale-near-m0}
-use Rattle.projection_worked.specs.Worked.{millionths-of, forward-finite, worked-forward}
+use Rattle.projection_worked.specs.Worked.{millionths-of, worked-forward}
 use Rattle.projection_worked.specs.Laws.Finite.{latitude-taken}
-use Rattle.projection_worked.specs.Laws.InverseBox.{Millionths, system-millionths}
+use Rattle.projection_worked.specs.Laws.InverseBox.{system-millionths}
 use Rattle.projection_worked.specs.Laws.Point.{forward-right, forward-always-finite}
 
 -- m0 is a whole number of the answer's units, so it is answered as it is

@@ -1,8 +1,8 @@
 -- Laws for the proofs of `projection_inverse::backward`: the two divisions that undo m0, and unsigned numbers as signed ones. Assumes nothing.
 use mathlib.Core.Bool.{Bool, true, false}
-use mathlib.Core.Path.{_≡_, refl, sym, ap, _∙_}
-use Prim.Native.Nat.{ℕ, _+_, _*_, _/_, _%_, _^_, _≤_, _<_}
-use native.Mathlib.Nat.{le-trans, div-add-mod', add-mul-div-right, div-mul-le-self, mod-lt, div-le-self, mul-le-mul-left}
+use mathlib.Core.Path.{_≡_, refl, sym, ap}
+use Prim.Native.Nat.{ℕ, _*_, _/_, _%_, _^_, _≤_, _<_}
+use native.Mathlib.Nat.{le-trans, div-mul-le-self, mod-lt, div-le-self, mul-le-mul-left}
 use native.Mathlib.Omega.{arith}
 use lib.Dec.{T, ltb, ltb→lt}
 use lib.IntN.{ℤ, pos}

@@ -1,4 +1,4 @@
-use mathlib.Core.Path.{_≡_, ap, ap₂, _∙_}
+use mathlib.Core.Path.{ap, ap₂, _∙_}
 use Prim.Native.Nat.{_*_, _^_}
 use lib.IntN.{pos}
 use Rattle.fixed.specs.Worked.{mul60}

@@ -1,4 +1,4 @@
-use mathlib.Core.Path.{_≡_, sym, ap, _∙_, subst}
+use mathlib.Core.Path.{ap, _∙_}
 use Prim.Native.Nat.{ℕ, _-_, _*_, _^_, _≤_}
 use native.Mathlib.Omega.{arith}
 use lib.Dec.{leb→le}
@@ -6,7 +6,6 @@ use lib.IntN.{ℤ, pos, negsuc, natAbs}
 use Rattle.rules.specs.Polynomial.{double-unit}
 use lib.Signed.{_≤ℤ_}
 use mir.Facts.{toZ-ofZ}
-use Rattle.rules.specs.Scaled.{unit}
 use Rattle.double.specs.Value.{value}
 use Rattle.metres.specs.Millimetres.{in-millimetres}
 use Rattle.systems.specs.Zones.{Sized}
