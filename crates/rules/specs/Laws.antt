@@ -10,7 +10,6 @@ pub mod Checks
 pub mod RingChecks
 pub mod Root
 pub mod Nearest
-pub mod Tried
 pub mod OwnAnswers
 pub mod Meridian
 pub mod Job
@@ -22,5 +21,6 @@ pub mod Edges
 pub mod Meeting
 pub mod Folding
 pub mod Pairs
+pub mod Tried
 pub mod Demand
 pub mod Numbers

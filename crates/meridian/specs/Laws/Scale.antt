@@ -57,7 +57,13 @@ module _ (E : Ellipsoid) (n : ℕ) (a : Latitude n) where
       (followed below (constants E) (latitude-sine-model band) (latitude-cosine-model band) (every-at 32 (test-band E) (passes E) band inside)
       (latitude-sine-follows band ((n - north) % width) below) (latitude-cosine-follows band ((n - north) % width) below))
 
--- ---- after m0 of M millionths, in units of 10^-9
+-- ---- after m0 of M millionths, in units of 10^-9, of which it is a whole number
+pub m0-whole : (M : ℕ) → pos units-in-scale *ℤ pos (M * 10 ^ 18) ≡ pos (1000 * M) *ℤ pos unit
+m0-whole M = ap pos (go M)
+  where
+    go : (M : ℕ) → units-in-scale * (M * 10 ^ 18) ≡ 1000 * M * unit
+    go M = omega arith
+
 module _ (s : System) (M : ℕ) (is : s .m0 ≡ pos (M * 10 ^ 18)) (most : M ≤ 1000000) (n : ℕ) (a : Latitude n) where
   abbrev p : ℤ
   p = product (before-m0 (s .ellipsoid) n) (pos (M * 10 ^ 18))
@@ -84,11 +90,10 @@ module _ (s : System) (M : ℕ) (is : s .m0 ≡ pos (M * 10 ^ 18)) (most : M ≤
   pub scale-near-m0 : Within 2 (pos (1000 * M)) (Unrounded.forward s (pos n) (s .L0) .scale)
   scale-near-m0 =
       subst (λ v. Within 2 (pos (1000 * M)) v) (sym is-product)
-      (record { bound = few (w-same _ (law p (pos M) (pos 1000) (pos 1000000) (pos (10 ^ 18))) (w-mul (w-num units-in-scale) near-m0) .within) })
+      (record { bound = few (w-same _ (law p (pos units-in-scale) (pos (M * 10 ^ 18)) ∙ ap (λ z. pos units-in-scale *ℤ p -ℤ z) (m0-whole M)) (w-mul (w-num units-in-scale) near-m0) .within) })
     where
-      -- 10^9 are a·v, m0 is M·b, and the unit is b·v
-      law : (x M a v b : ℤ) → (a *ℤ v) *ℤ (x -ℤ M *ℤ b) ≡ (a *ℤ v) *ℤ x -ℤ (a *ℤ M) *ℤ (b *ℤ v)
-      law x M a v b = ring (x ∷ M ∷ a ∷ v ∷ b ∷ []) λ ρ e1 e2 e3 e4 e5. simp (Z·ring, e1, e2, e3, e4, e5) (by-ring _ _ _ refl)
+      law : (x k m : ℤ) → k *ℤ (x -ℤ m) ≡ k *ℤ x -ℤ k *ℤ m
+      law x k m = ring (x ∷ k ∷ m ∷ []) λ ρ e1 e2 e3. simp (Z·ring, e1, e2, e3) (by-ring _ _ _ refl)
 
       few : natAbs (pos units-in-scale *ℤ p -ℤ pos (1000 * M) *ℤ pos unit) ≤ units-in-scale * (gap + 1) → 100 * natAbs (pos (1000 * M) *ℤ pos unit -ℤ pos units-in-scale *ℤ p) ≤ 2 * unit
       few h = go (natAbs (pos (1000 * M) *ℤ pos unit -ℤ pos units-in-scale *ℤ p)) (le-trans (le-of-eq (abs-sub-comm (pos (1000 * M) *ℤ pos unit) (pos units-in-scale *ℤ p))) h)

@@ -2,12 +2,10 @@
 -- nothing.
 use mathlib.Core.Bool.{true, false}
 use mathlib.Core.Path.{_≡_, refl, sym, _∙_, ap, subst}
-use mathlib.Core.List.{[], _∷_}
 use Prim.Native.Nat.{ℕ, _*_, _^_, _≤_}
 use native.Mathlib.Nat.{le-of-eq}
 use native.Mathlib.Omega.{arith}
-use lib.IntN.{ℤ, pos, natAbs, _-ℤ_, _*ℤ_}
-use Rattle.arith.specs.Laws.Ring.{ring, Z·ring, by-ring, ev-num}
+use lib.IntN.{ℤ, pos, natAbs, _*ℤ_}
 use Rattle.rules.specs.Units.{units-in-scale}
 use Rattle.rules.specs.Refusals.{Answer, answered}
 use Rattle.rules.specs.Systems.{System, system}
@@ -18,7 +16,7 @@ use Rattle.rules.specs.Points.{Point, latitude-bad, longitude-bad, forward-chec
 use Rattle.rules.specs.Laws.Checks.{longitude-exact, forward-passes}
 use Rattle.rules.specs.Laws.Meridian.{none-left}
 use Rattle.rules.specs.Laws.OwnAnswers.{alone, nearest-within, forward-is-right}
-use Rattle.meridian.specs.Laws.Scale.{scale-near-m0}
+use Rattle.meridian.specs.Laws.Scale.{m0-whole, scale-near-m0}
 use Rattle.projection_worked.specs.Worked.{millionths-of, worked-forward}
 use Rattle.projection_worked.specs.Laws.Finite.{latitude-taken}
 use Rattle.projection_worked.specs.Laws.InverseBox.{system-millionths}
@@ -29,12 +27,8 @@ whole : (s : System) (M : ℕ) → s .m0 ≡ pos (M * 10 ^ 18) → pos (1000 * M
 unfolding m0-answered
 whole s M e = alone (pos (1000 * M)) (nearest (pos units-in-scale *ℤ s .m0)) (pos units-in-scale *ℤ s .m0) (subst (λ m. Within 0 (pos (1000 * M)) (pos units-in-scale *ℤ m)) (sym e) exact) (nearest-within (pos units-in-scale *ℤ s .m0)) tt
   where
-    -- 10^9 are a·v, m0 is M·b, and the unit is b·v
-    law : (M a v b : ℤ) → (a *ℤ M) *ℤ (b *ℤ v) -ℤ (a *ℤ v) *ℤ (M *ℤ b) ≡ pos 0
-    law M a v b = ring (M ∷ a ∷ v ∷ b ∷ []) λ ρ e1 e2 e3 e4. simp (Z·ring, ev-num ρ, e1, e2, e3, e4) (by-ring _ _ _ refl)
-
     exact : Within 0 (pos (1000 * M)) (pos units-in-scale *ℤ pos (M * 10 ^ 18))
-    exact = record { bound = le-of-eq (ap (λ z. 100 * natAbs z) (law (pos M) (pos 1000) (pos 1000000) (pos (10 ^ 18)))) }
+    exact = subst (Within 0 (pos (1000 * M))) (sym (m0-whole M)) (record { bound = le-of-eq (ap (λ z. 100 * natAbs z) (none-left (pos (1000 * M) *ℤ pos unit))) })
 
 module _ (code : ℕ) (s : System) (B : ℤ) (e : system code ≡ answered s) (h : latitude-bad B ≡ false) where
   abbrev Answered : Answer Point → Type 0
