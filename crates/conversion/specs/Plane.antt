@@ -4,9 +4,8 @@ use Prim.Native.Nat.{ℕ}
 use lib.Dec.{eqb}
 use lib.IntN.{ℤ}
 use Rattle.rules.specs.Refusals.{Answer, answered, _>>=_}
-use Rattle.rules.specs.Points.{Ticks, plane-by}
+use Rattle.rules.specs.Points.{Ticks, plane-of, plane-by}
 use Rattle.rules.specs.Rings.{Corner}
-use Rattle.projection.specs.Answers.{plane-of}
 use Rattle.projection.specs.Inverse.{worked-inverse}
 use Rattle.projection.specs.Worked.{worked-forward}
 

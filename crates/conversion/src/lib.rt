@@ -8,11 +8,14 @@ ghost use Prim.Native.Nat.{_≤_, _<_};
 ghost use lib.ListN.{length, take, drop, getD};
 ghost use mathlib.Core.List.{_++_};
 ghost use Rattle.rules.specs.Refusals.{answered, passed};
+ghost use Rattle.rules.specs.Points.{Right-plane, Shows-both};
 ghost use Rattle.rules.specs.Rings.{origin};
-ghost use Rattle.rules.specs.Conversion.{held, verdict};
+ghost use Rattle.rules.specs.Conversion.{held, verdict, Right-conversion};
 ghost use Rattle.rules.specs.Conversion as Corners;
 ghost use Rattle.rings.specs.Corners.{pairs, Accepted};
 ghost use Rattle.projection.specs.Answers.{plane-paper};
+ghost use Rattle.projection.specs.Inverse.{inverse-finite};
+ghost use Rattle.projection.specs.Worked.{forward-finite};
 ghost use Rattle.conversion.specs.Codes.{verdict-paper, code-checks, ellipsoid-check};
 ghost use Rattle.conversion.specs.Ring.{worked-conversion, ring-carried, outcome};
 ghost use Rattle.conversion.specs.Plane.{worked-plane, carried, taken-to};
@@ -71,9 +74,10 @@ fn convert(source: u8, target: u8, x: i64, y: i64) -> PlaneAnswer
     }
 }
 
-// Refusals 1 (source, then target), 5, then those of the inverse and of the forward.
+// Refusals 1 (source, then target), 5, then those of the inverse and of the forward. Each leg lies in its band.
 pub fn plane_to_plane(source: u8, target: u8, x: i64, y: i64) -> PlaneAnswer
-    ensures { λ r. ⌜ plane-paper r ≡ worked-plane source target x y ⌝ }
+    ensures worked { λ r. ⌜ plane-paper r ≡ worked-plane source target x y ⌝ }
+    ensures band { λ r. ⌜ Right-plane forward-finite inverse-finite source target x y (plane-paper r) ⌝ }
 {
     match check_codes(source, target) {
         Verdict::Refused(n) => PlaneAnswer::Refused(n),
@@ -162,10 +166,11 @@ fn move_ring(source: u8, target: u8, corners: &[i64], output: &mut [i64]) -> Ver
 }
 
 // Refusals 1 (source, then target), 5, 6, 7, 8, 14, then those of the corners in order, the first wins. On a refusal the output holds what it held;
-// else the converted ring stands at its front, and the places past it hold what they held.
+// else the converted ring stands at its front, every corner in the band of plane to plane, and the places past it hold what they held.
 pub fn convert_ring(source: u8, target: u8, corners: &[i64], output: &mut [i64]) -> Verdict
     ensures verdict { λ r. ⌜ verdict-paper r ≡ verdict (worked-conversion source target (now (corners .entry)) (now (output .entry))) ⌝ }
     ensures held { λ r. ⌜ now (output .exit) ≡ held (worked-conversion source target (now (corners .entry)) (now (output .entry))) (now (output .entry)) ⌝ }
+    ensures band { λ r. ⌜ Shows-both (Right-conversion forward-finite inverse-finite source target (now (corners .entry)) (now (output .entry))) verdict (λ a. held a (now (output .entry))) (verdict-paper r) (now (output .exit)) ⌝ }
 {
     match check_codes(source, target) {
         Verdict::Refused(n) => Verdict::Refused(n),

@@ -45,10 +45,6 @@ abbrev pub LightTable : ℕ → List ℤ → ℕ → ℕ → Type 0
 LightTable D [] m k = ⊥
 LightTable D (c₀ ∷ cs) m k = Light D c₀ cs m k
 
-abbrev pub AnsweredTable : ℕ → List ℤ → Pair → Pair → Type 0
-AnsweredTable D [] z answer = Unit
-AnsweredTable D (c₀ ∷ cs) z answer = Answered D c₀ cs z answer
-
 -- 1.7 in units of 2 ^ -1074: the modulus of a pair by "parts of z at most 1.2 in size"
 unfoldable pub reach : ℕ
 unfolding double-unit

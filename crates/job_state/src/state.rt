@@ -3,10 +3,10 @@
 ghost use mathlib.Core.Path.{_≡_};
 ghost use Rattle.rules.specs.JobFile.{begun, cornered, closed, pointed};
 ghost use Rattle.rules.specs.RingAnswers.{number-bad};
-ghost use Rattle.projection.specs.Worked.{worked-forward};
+ghost use Rattle.projection.specs.Worked.{forward-finite, worked-forward};
 ghost use Rattle.records.specs.declared.Record.the-variants as record-case;
 ghost use Rattle.job_state.specs.Gathered.{ring-of, counted};
-ghost use Rattle.job_state.specs.States.{Stepping, new-job, view, stepped, point-said, query-said};
+ghost use Rattle.job_state.specs.States.{Stepping, Right-stepping, new-job, view, stepped, point-said, query-said};
 use crate::ring;
 use crate::ring::Judged;
 use projection::ForwardAnswer;
@@ -66,7 +66,8 @@ impl Job {
     }
 
     pub fn take(self, item: Record) -> Taken
-        ensures { λ r. ⌜ Stepping (stepped worked-forward (view self) item) item self r ⌝ }
+        ensures worked { λ r. ⌜ Stepping (stepped worked-forward (view self) item) item self r ⌝ }
+        ensures band { λ r. ⌜ Right-stepping forward-finite item self r ⌝ }
     {
         match item {
             Record::Begin(code) => self.begin(code),

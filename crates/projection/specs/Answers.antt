@@ -1,6 +1,5 @@
 -- The paper's number and values for each case of the code's answers. Assumes nothing.
-use lib.IntN.{ℤ}
-use Rattle.rules.specs.Refusals.{Answer, answered, refused, crossed-at, _>>=_}
+use Rattle.rules.specs.Refusals.{Answer, answered, refused}
 use Rattle.rules.specs.Points.{Point}
 use Rattle.rules.specs.Rings.{Corner}
 use Rattle.projection.specs.declared.ForwardAnswer.{ForwardAnswer}
@@ -16,7 +15,3 @@ forward-paper (forward-case.Refused n) = refused n
 abbrev pub plane-paper : PlaneAnswer → Answer Corner
 plane-paper (plane-case.At X Y) = answered (record { x = X; y = Y })
 plane-paper (plane-case.Refused n) = refused n
-
--- X and Y of a forward answer
-abbrev pub plane-of : Answer Point → Answer Corner
-plane-of a = a >>= λ p. answered (record { x = p .X; y = p .Y })

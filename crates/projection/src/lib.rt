@@ -4,10 +4,11 @@ use systems::ZoneAnswer;
 ghost use mathlib.Core.Path.{_≡_};
 ghost use Rattle.systems.specs.Zones.{Found};
 ghost use Rattle.systems.specs.declared.ZoneAnswer.the-variants.{Known};
-ghost use Rattle.projection.specs.Answers.{forward-paper, plane-paper, plane-of};
+ghost use Rattle.rules.specs.Points.{Right-forward, Right-inverse, Shows, plane-of};
+ghost use Rattle.projection.specs.Answers.{forward-paper, plane-paper};
 ghost use Rattle.projection_inverse.specs.Answers.{inverse-paper};
-ghost use Rattle.projection_worked.specs.Inverse.{worked-inverse};
-ghost use Rattle.projection_worked.specs.Worked.{worked-forward};
+ghost use Rattle.projection_worked.specs.Inverse.{inverse-finite, worked-inverse};
+ghost use Rattle.projection_worked.specs.Worked.{forward-finite, worked-forward};
 
 pub mod onward;
 pub mod steps;
@@ -55,9 +56,10 @@ fn forward_in(code: u8, zone: Zone, b: i64, l: i64) -> ForwardAnswer
     onward::point_at(zone, b, l)
 }
 
-// X, Y, scale and convergence, or refusal 1, 2, 3 or 10, in that order.
+// X, Y, scale and convergence, each within 0.51 of its unit of the definition, or refusal 1, 2, 3 or 10, in that order.
 pub fn forward(code: u8, b: i64, l: i64) -> ForwardAnswer
-    ensures { λ r. ⌜ forward-paper r ≡ worked-forward code b l ⌝ }
+    ensures worked { λ r. ⌜ forward-paper r ≡ worked-forward code b l ⌝ }
+    ensures band { λ r. ⌜ Right-forward (forward-finite code b l) code b l (forward-paper r) ⌝ }
 {
     match systems::find_zone(code) {
         ZoneAnswer::Unknown => ForwardAnswer::Refused(1),
@@ -67,7 +69,8 @@ pub fn forward(code: u8, b: i64, l: i64) -> ForwardAnswer
 
 // X and Y alone, for rings and plane to plane: as forward, refusals 1, 2, 3, 10.
 pub fn forward_plane(code: u8, b: i64, l: i64) -> PlaneAnswer
-    ensures { λ r. ⌜ plane-paper r ≡ plane-of (worked-forward code b l) ⌝ }
+    ensures worked { λ r. ⌜ plane-paper r ≡ plane-of (worked-forward code b l) ⌝ }
+    ensures band { λ r. ⌜ Shows (Right-forward (forward-finite code b l) code b l) plane-of (plane-paper r) ⌝ }
 {
     match systems::find_zone(code) {
         ZoneAnswer::Unknown => PlaneAnswer::Refused(1),
@@ -75,9 +78,10 @@ pub fn forward_plane(code: u8, b: i64, l: i64) -> PlaneAnswer
     }
 }
 
-// B and L in ticks of X and Y in millimetres, or refusal 1, 4, 10, 2 or 3, in that order.
+// B and L of X and Y in millimetres, each within 0.6 tick of the definition, or refusal 1, 4, 10, 2 or 3, in that order.
 pub fn inverse(code: u8, x: i64, y: i64) -> InverseAnswer
-    ensures { λ r. ⌜ inverse-paper r ≡ worked-inverse code x y ⌝ }
+    ensures worked { λ r. ⌜ inverse-paper r ≡ worked-inverse code x y ⌝ }
+    ensures band { λ r. ⌜ Right-inverse (inverse-finite code x y) code x y (inverse-paper r) ⌝ }
 {
     match systems::find_zone(code) {
         ZoneAnswer::Known(zone) => backward::in_zone(zone, x, y),

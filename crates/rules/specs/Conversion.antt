@@ -1,5 +1,6 @@
 -- 01, conversion of a whole ring: what the call answers, and what the lent output holds after it. Assumes nothing.
-use mathlib.Core.Bool.{not}
+use mathlib.Core.Bool.{Bool, not}
+use mathlib.Core.Path.{_≡_}
 use mathlib.Core.List.{List, [], _∷_, _++_}
 use Prim.Native.Nat.{ℕ}
 use lib.Dec.{ltb}
@@ -8,7 +9,7 @@ use lib.ListN.{length, drop}
 use Rattle.rules.specs.Refusals.{Answer, answered, refused, crossed-at, Passed, passed, _>>=_, _>>_, _if_, ellipsoids-differ, output-too-short}
 use Rattle.rules.specs.Systems.{system, same-ellipsoid}
 use Rattle.rules.specs.Rings.{Corner}
-use Rattle.rules.specs.Points.{plane}
+use Rattle.rules.specs.Points.{plane, Right-plane}
 use Rattle.rules.specs.RingAnswers.{ring-checks}
 
 -- "then its corners in order, the first refusal wins": the numbers of the corners, each taken plane to plane
@@ -38,3 +39,9 @@ held (crossed-at i j) output = output
 
 unfoldable pub conversion : ℕ → ℕ → List ℤ → List ℤ → Answer (List ℤ)
 conversion = conversion-by plane
+
+-- an answer is right: every corner is, taken plane to plane
+pub record Right-conversion (forward-finite inverse-finite : ℕ → ℤ → ℤ → Bool) (source target : ℕ) (numbers output : List ℤ) (r : Answer (List ℤ)) : Type 0 where
+  pub corner : ℤ → ℤ → Answer Corner
+  pub each : (X Y : ℤ) → Right-plane forward-finite inverse-finite source target X Y (corner X Y)
+  pub all : r ≡ conversion-by (λ source target. corner) source target numbers output

@@ -1,5 +1,6 @@
 -- 01, The job file: from the bytes of a file to the bytes that the field program prints. Assumes nothing.
 use mathlib.Core.Bool.{Bool, true, false}
+use mathlib.Core.Path.{_≡_}
 use mathlib.Core.List.{List, [], _∷_, _++_}
 use Prim.Native.Nat.{ℕ, zero, suc, _+_, _*_, _-_, _/_, _%_, _^_}
 use Prim.Native.Char.{code}
@@ -11,7 +12,7 @@ use lib.ListN.{length, take, drop}
 use Rattle.rules.specs.Refusals.{Answer, answered, refused, crossed-at, Passed, _>>=_, _>>_, _if_, corner-count, corner-number, span-too-large, ring-crossed, kind-unknown, body-cut-off, out-of-place}
 use Rattle.rules.specs.Systems.{system}
 use Rattle.rules.specs.Rings.{Corner, area2}
-use Rattle.rules.specs.Points.{Point, forward}
+use Rattle.rules.specs.Points.{Point, forward, Forward-right}
 use Rattle.rules.specs.RingAnswers.{number-bad, count-bad, span-bad, not-crossed, Nozzle, open-nozzle, border-nozzle, shut-nozzle, nozzle}
 
 -- ---- the text that is printed: a text's bytes, and a whole number in decimal
@@ -181,3 +182,7 @@ job-by forward-at file = run forward-at (suc (length file)) no-field 0 0 file
 
 unfoldable pub job : List ℕ → List ℕ
 job = job-by forward
+
+-- what is printed is right: it is the job by a forward whose answers are, so the numbers of each `point` line lie in the band
+abbrev pub Right-job : (ℕ → ℤ → ℤ → Bool) → List ℕ → List ℕ → Type 0
+Right-job forward-finite file printed = (forward-at : ℕ → ℤ → ℤ → Answer Point) × Forward-right forward-finite forward-at × (printed ≡ job-by forward-at file)

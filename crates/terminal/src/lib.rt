@@ -1,4 +1,5 @@
-// The C interface of the terminal: each call hands on what the library answers. It returns 0 or the refusal's number, and what was lent holds what `Lent` says.
+// The C interface of the terminal: each call hands on what the library answers. It returns 0 or the refusal's number, and what was lent holds what `Lent` says;
+// the number and the lent memory are those of the worked value, and so of an answer that is right (`band`).
 // include/misgwalor.h declares and documents the calls; the sizes of the fixed arrays are its duty.
 use conversion::Verdict;
 use projection::ForwardAnswer;
@@ -8,12 +9,13 @@ use rings::CrossingAnswer;
 use rings::NozzleAnswer;
 use rings::WholeAnswer;
 ghost use mathlib.Core.Path.{_≡_};
-ghost use Rattle.rules.specs.Conversion.{held};
+ghost use Rattle.rules.specs.Conversion.{held, Right-conversion};
+ghost use Rattle.rules.specs.Points.{Right-forward, Right-inverse, Right-plane, Shows-both};
 ghost use Rattle.rules.specs.RingAnswers.{area-answer, turning-answer, crossing-answer, nozzle-answer};
 ghost use Rattle.rings.specs.Answers.{refusal-of};
 ghost use Rattle.rings.specs.Corners.{corner};
-ghost use Rattle.projection.specs.Inverse.{worked-inverse};
-ghost use Rattle.projection.specs.Worked.{worked-forward};
+ghost use Rattle.projection.specs.Inverse.{inverse-finite, worked-inverse};
+ghost use Rattle.projection.specs.Worked.{forward-finite, worked-forward};
 ghost use Rattle.conversion.specs.Plane.{worked-plane};
 ghost use Rattle.conversion.specs.Ring.{worked-conversion};
 ghost use Rattle.terminal.specs.Lent.{lent, edges-lent, point-numbers, tick-numbers, plane-numbers, whole-number, nozzle-number};
@@ -23,6 +25,7 @@ ghost use Rattle.terminal.specs.Lent.{lent, edges-lent, point-numbers, t
 pub extern "C" fn misgwalor_forward(code: u8, b: i64, l: i64, answer: &mut [i64; 4]) -> u8
     ensures number { λ r. ⌜ r ≡ refusal-of (worked-forward code b l) ⌝ }
     ensures holds { λ r. ⌜ now (answer .exit) ≡ lent point-numbers (worked-forward code b l) (now (answer .entry)) ⌝ }
+    ensures band { λ r. ⌜ Shows-both (Right-forward (forward-finite code b l) code b l) refusal-of (λ a. lent point-numbers a (now (answer .entry))) r (now (answer .exit)) ⌝ }
 {
     match projection::forward(code, b, l) {
         ForwardAnswer::Refused(n) => n,
@@ -38,6 +41,7 @@ pub extern "C" fn misgwalor_forward(code: u8, b: i64, l: i64, answer: &mut [i64;
 pub extern "C" fn misgwalor_inverse(code: u8, x: i64, y: i64, answer: &mut [i64; 2]) -> u8
     ensures number { λ r. ⌜ r ≡ refusal-of (worked-inverse code x y) ⌝ }
     ensures holds { λ r. ⌜ now (answer .exit) ≡ lent tick-numbers (worked-inverse code x y) (now (answer .entry)) ⌝ }
+    ensures band { λ r. ⌜ Shows-both (Right-inverse (inverse-finite code x y) code x y) refusal-of (λ a. lent tick-numbers a (now (answer .entry))) r (now (answer .exit)) ⌝ }
 {
     match projection::inverse(code, x, y) {
         InverseAnswer::Refused(n) => n,
@@ -59,6 +63,7 @@ pub extern "C" fn misgwalor_plane_to_plane(
 ) -> u8
     ensures number { λ r. ⌜ r ≡ refusal-of (worked-plane source target x y) ⌝ }
     ensures holds { λ r. ⌜ now (answer .exit) ≡ lent plane-numbers (worked-plane source target x y) (now (answer .entry)) ⌝ }
+    ensures band { λ r. ⌜ Shows-both (Right-plane forward-finite inverse-finite source target x y) refusal-of (λ a. lent plane-numbers a (now (answer .entry))) r (now (answer .exit)) ⌝ }
 {
     match conversion::plane_to_plane(source, target, x, y) {
         PlaneAnswer::Refused(n) => n,
@@ -79,6 +84,7 @@ pub extern "C" fn misgwalor_convert_ring(
 ) -> u8
     ensures number { λ r. ⌜ r ≡ refusal-of (worked-conversion source target (now (corners .entry)) (now (output .entry))) ⌝ }
     ensures holds { λ r. ⌜ now (output .exit) ≡ held (worked-conversion source target (now (corners .entry)) (now (output .entry))) (now (output .entry)) ⌝ }
+    ensures band { λ r. ⌜ Shows-both (Right-conversion forward-finite inverse-finite source target (now (corners .entry)) (now (output .entry))) refusal-of (λ a. held a (now (output .entry))) r (now (output .exit)) ⌝ }
 {
     match conversion::convert_ring(source, target, corners, output) {
         Verdict::Refused(n) => n,

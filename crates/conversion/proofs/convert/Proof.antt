@@ -27,7 +27,7 @@ returns : tie.Need-returns
 returns c =
     let b = c .before .before .before .before in
     sym (inverse-refused (b .args .source) (b .args .target) _ (b .args .x) (b .args .y)
-    (sym (c .before .before .before .inverse .ensures ∙ ap₂ (worked-inverse (b .args .source)) (toZ-ofZ (b .fits .x)) (toZ-ofZ (b .fits .y))) ∙ ap inverse-paper (c .before .n .given .1)))
+    (sym (c .before .before .before .inverse .ensures .0 ∙ ap₂ (worked-inverse (b .args .source)) (toZ-ofZ (b .fits .x)) (toZ-ofZ (b .fits .y))) ∙ ap inverse-paper (c .before .n .given .1)))
 
 returns-2 : tie.Need-returns-2
 returns-2 c =
@@ -36,7 +36,7 @@ returns-2 c =
     c .take-to .ensures
     ∙ same-taken (b .args .source) (b .args .target) (toZ-ofZ (b .fits .x)) (toZ-ofZ (b .fits .y)) (toZ-ofZ (record { sfits = k .0 .1 })) (toZ-ofZ (record { sfits = k .1 .0 .1 }))
     ∙ sym (inverse-answered (b .args .source) (b .args .target) (b .args .x) (b .args .y) _
-    (sym (c .before .before .before .before .inverse .ensures ∙ ap₂ (worked-inverse (b .args .source)) (toZ-ofZ (b .fits .x)) (toZ-ofZ (b .fits .y))) ∙ ap inverse-paper (c .before .before .b .given .1)))
+    (sym (c .before .before .before .before .inverse .ensures .0 ∙ ap₂ (worked-inverse (b .args .source)) (toZ-ofZ (b .fits .x)) (toZ-ofZ (b .fits .y))) ∙ ap inverse-paper (c .before .before .b .given .1)))
 
 pub convert-spec : {M : Type 1} → statement M
 convert-spec =

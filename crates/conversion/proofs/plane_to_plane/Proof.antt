@@ -1,5 +1,8 @@
 use mathlib.Core.Path.{_≡_, sym, ap, ap₂, _∙_}
 use mir.Facts.{toZ-ofZ}
+use Rattle.rules.specs.Points.{Right-plane}
+use Rattle.rules.specs.Laws.Legs.{banded, plane-right}
+use Rattle.projection.specs.Laws.Right.{right}
 use Rattle.conversion.specs.Codes.{verdict-paper}
 use Rattle.conversion.specs.Plane.{carried}
 use Rattle.conversion.specs.Laws.Plane.{codes-refused, codes-passed}
@@ -26,14 +29,16 @@ convert-requires c κs = search needs
 returns : tie.Need-returns
 returns c =
     let b = c .before .before .before .before in
-    sym (codes-refused (b .args .source) (b .args .target) _ (b .args .x) (b .args .y) (sym (c .before .before .before .check-codes .ensures) ∙ ap verdict-paper (c .before .n .given .1)))
+    banded (Right-plane _ _ _ _ _ _) (plane-right right (b .args .source) (b .args .target) (b .args .x) (b .args .y))
+    (sym (codes-refused (b .args .source) (b .args .target) _ (b .args .x) (b .args .y) (sym (c .before .before .before .check-codes .ensures) ∙ ap verdict-paper (c .before .n .given .1))))
 
 returns-2 : tie.Need-returns-2
 returns-2 c =
     let b = c .before .before .before .before in
-    c .convert .ensures
+    banded (Right-plane _ _ _ _ _ _) (plane-right right (b .args .source) (b .args .target) (b .args .x) (b .args .y))
+    (c .convert .ensures
     ∙ ap₂ (carried (b .args .source) (b .args .target)) (toZ-ofZ (b .fits .x)) (toZ-ofZ (b .fits .y))
-    ∙ sym (codes-passed (b .args .source) (b .args .target) (b .args .x) (b .args .y) (sym (c .before .before .before .check-codes .ensures) ∙ ap verdict-paper (c .before .enum-told .given .1)))
+    ∙ sym (codes-passed (b .args .source) (b .args .target) (b .args .x) (b .args .y) (sym (c .before .before .before .check-codes .ensures) ∙ ap verdict-paper (c .before .enum-told .given .1))))
 
 pub plane-to-plane-spec : {M : Type 1} → statement M
 plane-to-plane-spec =

@@ -1,4 +1,3 @@
-use Rattle.projection.specs.Answers.{plane-of}
 use Rattle.projection.specs.Worked.{worked-forward}
 use mathlib.Core.Path.{_≡_, sym, ap, ap₂, _∙_}
 use Rattle.conversion.specs.Laws.Plane.{same-codes, other-codes}
@@ -6,6 +5,7 @@ use lib.IntN.{ℤ}
 use mir.Facts.{toZ-ofZ}
 use Rattle.rules.specs.Refusals.{Answer, answered}
 use Rattle.rules.specs.Rings.{Corner}
+use Rattle.rules.specs.Points.{plane-of}
 use borrow.Author.Needs.{needs}
 use Rattle.conversion.proofs.take_to.Statement.{statement}
 use Rattle.conversion.proofs.take_to.Tie as tie
@@ -28,7 +28,7 @@ forward-plane-requires c κs = search needs
 returns-2 : tie.Need-returns-2
 returns-2 c =
     let b = c .before .before in
-    c .forward-plane .ensures
+    c .forward-plane .ensures .0
     ∙ ap₂ (λ B L. plane-of (worked-forward (b .args .target) B L)) (toZ-ofZ (b .fits .b)) (toZ-ofZ (b .fits .l))
     ∙ sym (other-codes (b .args .source) (b .args .target) (b .args .x) (b .args .y) _ (c .before .if1 .left))
 

@@ -7,9 +7,8 @@ use borrow.Author.Tests.{eq-eqb}
 use lib.IntN.{ℤ}
 use Rattle.rules.specs.Refusals.{Answer, answered, refused, crossed-at, passed, _>>=_, _>>_, _if_, ellipsoids-differ}
 use Rattle.rules.specs.Systems.{System, system, same-ellipsoid}
-use Rattle.rules.specs.Points.{Ticks, plane-by}
+use Rattle.rules.specs.Points.{Ticks, plane-of, plane-by}
 use Rattle.rules.specs.Rings.{Corner}
-use Rattle.projection.specs.Answers.{plane-of}
 use Rattle.projection.specs.Inverse.{worked-inverse}
 use Rattle.projection.specs.Worked.{worked-forward}
 use Rattle.conversion.specs.Codes.{code-checks}

@@ -1,4 +1,4 @@
--- The tenth of a micrometre over any table, and the one micrometre of document 01 from it. Assumes nothing.
+-- The tenth of a micrometre over any table, and what the rules say of a step from it. Assumes nothing.
 use mathlib.Core.Path.{_≡_, sym, ap, _∙_, subst}
 use mathlib.Core.List.{List, [], _∷_}
 use Prim.Native.Nat.{ℕ, suc, _+_, _*_, _^_, _≤_}
@@ -17,7 +17,7 @@ use Rattle.double.specs.Value.{magnitude, value}
 use Rattle.double.specs.Complex.{nought, real, horner, Numbers, values}
 use Rattle.double.specs.Pairs.{_⊙_, Close}
 use Rattle.double.specs.Exact.{at, nearest-double, doubles}
-use Rattle.double.specs.Bound.{Light, LightTable, Inside, per-metre, Tenth, Answered, AnsweredTable, reach}
+use Rattle.double.specs.Bound.{Light, Inside, per-metre, Tenth, Answered, reach}
 use Rattle.double.specs.Laws.Examples.{arithmetic}
 use Rattle.double.specs.Laws.Modulus.{close-first, close-second}
 use Rattle.double.specs.Laws.Bound.{at-exact, polynomial-near}
@@ -55,10 +55,6 @@ tenth D c cs z m light inside =
       second = record { bound = within (natAbs (value (r .im) *ℤ pos (D * double-unit ^ length cs) -ℤ exact (c ∷ cs) (values z) .second *ℤ pos double-unit)) q t (close-second close) (enough (length cs) (light .few)) };
     }
 
-pub tenth-table : (D : ℕ) (cs : List ℤ) (z : Pair) (m : ℕ) → LightTable D cs m 8000000 → Inside z m → AnsweredTable D cs z (horner (doubles D cs) z)
-tenth-table D [] z m l i = tt
-tenth-table D (c ∷ cs) z m l i = tenth D c cs z m l i
-
 -- ---- parts of at most 1.2
 reach-covers : 288 * (double-unit * double-unit) ≤ 100 * (reach * reach)
 unfolding reach double-unit
@@ -78,9 +74,9 @@ small-inside z Z s = record {
     go : (a b u : ℕ) → 10 * a ≤ 12 * u → 10 * b ≤ 12 * u → 100 * (a * a + b * b) ≤ 288 * (u * u)
     go a b u h k = let x = part a u h in let y = part b u k in omega arith
 
--- ---- "within one micrometre of the exact value"
+-- ---- what the rules owe of a step: "a tenth of a micrometre", for parts of at most 1.2
 pub near-exact : (c : ℤ) (cs : List ℤ) (z : Pair) → Numbers z → Light unit c cs reach 8000000 → Near-exact c cs (values z) (values (horner (doubles unit (c ∷ cs)) z))
 near-exact c cs z Z light = record {
-  first = λ s. let h = tenth unit c cs z reach light (small-inside z Z s) .first .bound in record { bound = omega arith };
-  second = λ s. let h = tenth unit c cs z reach light (small-inside z Z s) .second .bound in record { bound = omega arith };
+  first = λ s. record { bound = tenth unit c cs z reach light (small-inside z Z s) .first .bound };
+  second = λ s. record { bound = tenth unit c cs z reach light (small-inside z Z s) .second .bound };
 }

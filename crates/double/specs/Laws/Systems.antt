@@ -75,24 +75,24 @@ of-table : (cs : List ℤ) (s l : ℕ) → LightTable unit cs reach 8000000 → 
 of-table [] s l light gentle z w e i m a = absurd light
 of-table (c ∷ cs) s l light gentle z w e i m a = defined c cs z w reach reach-24 s l e light i gentle m reach-less a
 
--- ---- "within one micrometre of the exact value of the same polynomial at the same f64 inputs, for parts of z at most 1.2 in size"
+-- ---- "a tenth of a micrometre", "of the exact value of the same polynomial at the same f64 inputs, for parts of z at most 1.2 in size"
 abbrev pub NearExactTable : List ℤ → Pair → Pair → Type 0
 NearExactTable [] z answer = Unit
 NearExactTable (c ∷ cs) z answer = Near-exact c cs (values z) (values answer)
 
-pub micrometre : (cs : List ℤ) → LightTable unit cs reach 8000000 → (z : Pair) → Numbers z → NearExactTable cs z (horner (doubles unit cs) z)
-micrometre [] light z Z = tt
-micrometre (c ∷ cs) light z Z = near-exact c cs z Z light
+pub tenth-table : (cs : List ℤ) → LightTable unit cs reach 8000000 → (z : Pair) → Numbers z → NearExactTable cs z (horner (doubles unit cs) z)
+tenth-table [] light z Z = tt
+tenth-table (c ∷ cs) light z Z = near-exact c cs z Z light
 
 -- of each step that the code has
-pub forward-micrometre : (k : Ellipsoid) (z : Pair) → Numbers z → NearExactTable (a-coefficients (constants k)) z (horner (doubles unit (a-coefficients (constants k))) z)
-forward-micrometre k = micrometre (a-coefficients (constants k)) (forward-light k)
+pub forward-tenth : (k : Ellipsoid) (z : Pair) → Numbers z → NearExactTable (a-coefficients (constants k)) z (horner (doubles unit (a-coefficients (constants k))) z)
+forward-tenth k = tenth-table (a-coefficients (constants k)) (forward-light k)
 
-pub inverse-micrometre : (k : Ellipsoid) (z : Pair) → Numbers z → NearExactTable (b-coefficients (constants k)) z (horner (doubles unit (b-coefficients (constants k))) z)
-inverse-micrometre k = micrometre (b-coefficients (constants k)) (inverse-light k)
+pub inverse-tenth : (k : Ellipsoid) (z : Pair) → Numbers z → NearExactTable (b-coefficients (constants k)) z (horner (doubles unit (b-coefficients (constants k))) z)
+inverse-tenth k = tenth-table (b-coefficients (constants k)) (inverse-light k)
 
-pub derivative-micrometre : (k : Ellipsoid) (z : Pair) → Numbers z → NearExactTable (derivative (a-coefficients (constants k))) z (horner (doubles unit (derivative (a-coefficients (constants k)))) z)
-derivative-micrometre k = micrometre (derivative (a-coefficients (constants k))) (derivative-light k)
+pub derivative-tenth : (k : Ellipsoid) (z : Pair) → Numbers z → NearExactTable (derivative (a-coefficients (constants k))) z (horner (doubles unit (derivative (a-coefficients (constants k)))) z)
+derivative-tenth k = tenth-table (derivative (a-coefficients (constants k))) (derivative-light k)
 
 -- ---- "a0 + a1·z + .. + a6·z^6", its derivative, and the b polynomial, for z and w of parts at most 1.2 that are e apart
 pub forward-defined : (k : Ellipsoid) (z : Pair) (w : scaled.Pair) (e : ℕ) → Inside z reach → Modulus w reach-24 → Apart z w e → Defined (a-coefficients (constants k)) w (horner (doubles unit (a-coefficients (constants k))) z) 500500 2100000 e

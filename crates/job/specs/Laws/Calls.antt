@@ -1,15 +1,17 @@
 -- The calls themselves (`Calls` of Runs): over any calls of `feed`, one after another, each on any chunk and any buffer, and a `finish` at the end, what is written is exactly the
--- rules' job of the bytes that were taken. Assumes nothing.
-use mathlib.Core.Path.{_≡_, refl, sym, ap, _∙_}
+-- rules' job of the bytes that were taken, by a forward that is right. Assumes nothing.
+use mathlib.Core.Path.{_≡_, refl, sym, ap, _∙_, subst}
 use mathlib.Core.Bool.{Bool}
 use mathlib.Core.List.{List, [], _++_}
 use Prim.Native.Nat.{ℕ, _+_, _^_, _≤_, _<_}
 use borrow.Author.Tests.{le-ltb}
 use lib.ListN.{length, take, drop}
 use lib.Seq.{take-append-seam}
-use Rattle.rules.specs.JobFile.{job-by}
+use Rattle.rules.specs.JobFile.{job-by, Right-job}
+use Rattle.rules.specs.Laws.Legs.{job-right}
 use Rattle.lines.specs.Said.{pasted}
-use Rattle.projection.specs.Worked.{worked-forward}
+use Rattle.projection.specs.Worked.{forward-finite, worked-forward}
+use Rattle.projection.specs.Laws.Right.{right}
 use Rattle.job.specs.declared.run.Run.{Run}
 use Rattle.job_state.specs.Gathered.{chosen}
 use Rattle.job.specs.Machine.{Progress, start, fed, finished}
@@ -47,6 +49,11 @@ all-calls {r} {s} {bytes} {written} {out} {out′} {n} new calls f room h =
     ∙ ap (λ (l : List ℕ). l ++ finished (fed worked-forward (progress r) bytes .next)) (wrote calls)
     ∙ ap (λ (p : Progress). fed worked-forward p bytes .printed ++ finished (fed worked-forward p bytes .next)) new
     ∙ whole-file worked-forward bytes h
+
+-- so it is the job by a forward whose answers are right: every `point` line lies in the band
+pub all-calls-right : {r s : Run} {bytes written out out′ : List ℕ} {n : ℕ} → progress r ≡ start → Calls r bytes written s → Finishing s out n out′
+    → 128 ≤ length out → length bytes < 2 ^ 64 → Right-job forward-finite bytes (written ++ take n out′)
+all-calls-right {bytes = bytes} new calls f room h = subst (Right-job forward-finite bytes) (sym (all-calls new calls f room h)) (job-right right bytes)
 
 -- what `Run::new` hands back has come nowhere yet
 pub new-starts : progress new-run ≡ start

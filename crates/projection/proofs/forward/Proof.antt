@@ -1,8 +1,11 @@
 -- `projection::forward` meets its contract. Assumes nothing.
 use mathlib.Core.Path.{_≡_, sym, ap, ap₂, _∙_, subst}
 use mir.Facts.{toZ-ofZ}
+use Rattle.rules.specs.Points.{Right-forward}
+use Rattle.rules.specs.Laws.Legs.{banded}
 use Rattle.systems.specs.Zones.{Found}
 use Rattle.projection_worked.specs.Worked.{worked-forward}
+use Rattle.projection_worked.specs.Laws.Point.{forward-right}
 use Rattle.projection.specs.Laws.Checked.{no-system}
 use borrow.Author.Needs.{needs}
 use Rattle.projection.proofs.forward.Statement.{statement}
@@ -27,12 +30,14 @@ forward-in-requires c κs = subst (Found (c .before .before .before .before .arg
 returns : tie.Need-returns
 returns c =
     let b = c .before .before .before in
-    sym (no-system (b .args .code) (b .args .b) (b .args .l) 1 (subst (Found (b .args .code)) (c .enum-told .given .1) (c .before .before .find-zone .ensures)))
+    banded (Right-forward _ _ _ _) (forward-right (b .args .code) (b .args .b) (b .args .l))
+    (sym (no-system (b .args .code) (b .args .b) (b .args .l) 1 (subst (Found (b .args .code)) (c .enum-told .given .1) (c .before .before .find-zone .ensures))))
 
 returns-2 : tie.Need-returns-2
 returns-2 c =
     let b = c .before .before .before .before .before in
-    c .forward-in .ensures ∙ ap₂ (λ x y. worked-forward (b .args .code) x y) (toZ-ofZ (b .fits .b)) (toZ-ofZ (b .fits .l))
+    banded (Right-forward _ _ _ _) (forward-right (b .args .code) (b .args .b) (b .args .l))
+    (c .forward-in .ensures ∙ ap₂ (λ x y. worked-forward (b .args .code) x y) (toZ-ofZ (b .fits .b)) (toZ-ofZ (b .fits .l)))
 
 pub forward-spec : {M : Type 1} → statement M
 forward-spec =

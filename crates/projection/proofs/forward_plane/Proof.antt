@@ -1,9 +1,11 @@
 -- `projection::forward_plane` meets its contract. Assumes nothing.
 use mathlib.Core.Path.{_≡_, sym, ap, ap₂, _∙_, subst}
 use mir.Facts.{toZ-ofZ}
+use Rattle.rules.specs.Points.{plane-of}
+use Rattle.rules.specs.Laws.Legs.{shown}
 use Rattle.systems.specs.Zones.{Found}
-use Rattle.projection.specs.Answers.{plane-of}
 use Rattle.projection_worked.specs.Worked.{worked-forward}
+use Rattle.projection_worked.specs.Laws.Point.{forward-right}
 use Rattle.projection.specs.Laws.Checked.{no-system}
 use borrow.Author.Needs.{needs}
 use Rattle.projection.proofs.forward_plane.Statement.{statement}
@@ -28,12 +30,14 @@ plane-in-requires c κs = subst (Found (c .before .before .before .before .args 
 returns : tie.Need-returns
 returns c =
     let b = c .before .before .before in
-    sym (ap plane-of (no-system (b .args .code) (b .args .b) (b .args .l) 1 (subst (Found (b .args .code)) (c .enum-told .given .1) (c .before .before .find-zone .ensures))))
+    shown plane-of (forward-right (b .args .code) (b .args .b) (b .args .l))
+    (sym (ap plane-of (no-system (b .args .code) (b .args .b) (b .args .l) 1 (subst (Found (b .args .code)) (c .enum-told .given .1) (c .before .before .find-zone .ensures)))))
 
 returns-2 : tie.Need-returns-2
 returns-2 c =
     let b = c .before .before .before .before .before in
-    c .plane-in .ensures ∙ ap₂ (λ x y. plane-of (worked-forward (b .args .code) x y)) (toZ-ofZ (b .fits .b)) (toZ-ofZ (b .fits .l))
+    shown plane-of (forward-right (b .args .code) (b .args .b) (b .args .l))
+    (c .plane-in .ensures ∙ ap₂ (λ x y. plane-of (worked-forward (b .args .code) x y)) (toZ-ofZ (b .fits .b)) (toZ-ofZ (b .fits .l)))
 
 pub forward-plane-spec : {M : Type 1} → statement M
 forward-plane-spec =

@@ -2,9 +2,9 @@
 use mathlib.Core.Path.{_≡_, sym, ap, ap₂, _∙_}
 use lib.IntN.{ℤ, _-ℤ_}
 use mir.Facts.{toZ-ofZ}
-use Rattle.rules.specs.Points.{latitude-bad, longitude-bad}
+use Rattle.rules.specs.Points.{latitude-bad, longitude-bad, plane-of}
 use Rattle.fixed_bands.specs.Bands.{Latitude}
-use Rattle.projection.specs.Answers.{plane-paper, plane-of}
+use Rattle.projection.specs.Answers.{plane-paper}
 use Rattle.projection_worked.specs.Worked.{worked-X, worked-Y, worked-point}
 use Rattle.projection.specs.Laws.Checked.{latitude-refused, longitude-refused, point-plane}
 use Rattle.projection.specs.declared.PlaneAnswer.the-variants.{At}

@@ -7,9 +7,8 @@ use lib.Signed.{_≤ℤ_}
 use Rattle.rules.specs.Units.{_°_′_″}
 use Rattle.rules.specs.Refusals.{Answer, answered, refused, crossed-at, _>>=_}
 use Rattle.rules.specs.Systems.{System, system}
-use Rattle.rules.specs.Points.{Point, latitude-bad, longitude-bad, forward-checks}
+use Rattle.rules.specs.Points.{Point, plane-of, latitude-bad, longitude-bad, forward-checks}
 use Rattle.rules.specs.Laws.Checks.{forward-1, forward-2, forward-3, forward-passes}
-use Rattle.projection.specs.Answers.{plane-of}
 use Rattle.projection_worked.specs.Worked.{forward-finite, steps-finite, worked-X, worked-Y, worked-scale, worked-convergence, worked-point, worked-forward}
 
 module _ (code : ℕ) (B L : ℤ) where

@@ -13,7 +13,6 @@ use Rattle.rules.specs.Systems.{_/10^_, System, system, constants, a-coefficien
 use Rattle.rules.specs.Scaled.{unit, radians, sine, cosine, turned-to, polynomial, derivative}
 use Rattle.rules.specs.Scaled as scaled
 use Rattle.rules.specs.Rounding.{Within}
-use Rattle.rules.specs.Laws.OwnAnswers.{wider}
 use Rattle.rules.specs.Projection as Unrounded
 use Rattle.rules.specs.Points.{Point, offset-X, offset-Y, latitude-bad, longitude-bad, forward-checks, Near-forward, Right-forward, Right-forward-by}
 use Rattle.rules.specs.Laws.Checks.{longitude-exact}
@@ -79,7 +78,7 @@ module _ (s : System) (m : Millionths s (millionths-of s)) (B L : ℤ) (h : lati
 
   pub point-near : Near-forward s (Unrounded.forward s B L) (worked-point s B d)
   unfolding worked-point
-  point-near = subst (λ v. Near-forward s v (worked-point s B d)) (sym same-definition) (record { X = wider 60 tt X-right; Y = wider 60 tt Y-right; scale = wider 60 tt scale-right; convergence = wider 60 tt convergence-right })
+  point-near = subst (λ v. Near-forward s v (worked-point s B d)) (sym same-definition) (record { X = X-right; Y = Y-right; scale = scale-right; convergence = convergence-right })
 
 -- ---- what an answer of the checks says
 passed-3 : (a : Answer System) (f : Bool) (s : System) (B L : ℤ)

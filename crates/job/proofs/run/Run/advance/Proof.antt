@@ -28,7 +28,7 @@ same-length c = search needs
 returns : tie.Need-returns
 returns c =
     let taken = c .before .before .before .before .before .before .before .before .before .take in
-    advances-by (c .before .before .before .before .before .before .before .before .before .before .before .before .before .args .self) _ _ (taken .result .answer) (record { job = taken .result .job; held = c .before .before .none .result; place = c .before .after .result; stopped = c .refuses .result }) (taken .ensures .says) (taken .ensures .leaves)
+    advances-by (c .before .before .before .before .before .before .before .before .before .before .before .before .before .args .self) _ _ (taken .result .answer) (record { job = taken .result .job; held = c .before .before .none .result; place = c .before .after .result; stopped = c .refuses .result }) (taken .ensures .0 .says) (taken .ensures .0 .leaves)
     (c .before .before .before .before .before .before .before .answer-line .ensures) (c .refuses .ensures) (c .before .after .ensures .0) (c .before .after .ensures .1) (c .before .before .none .ensures) (c .before .before .before .before .before .put .ensures .0) (c .before .before .before .before .before .put .ensures .1)
 
 pub advance-spec : {M : Type 1} → statement M

@@ -17,7 +17,7 @@ point-answer-requires c κs = search needs
 returns : tie.Need-returns
 returns c =
     read-two (λ B L. pointed (view (c .before .before .args .self)) (worked-forward (c .before .before .args .code) B L)) (λ B L. record-case.Point (c .before .before .args .code) B L) _ _ (c .before .before .fits .b) (c .before .before .fits .l)
-    (point-by _ _ _ (c .before .before .args .self) _ (c .before .forward .result) _ (c .point-answer .ensures) (c .before .forward .ensures))
+    (point-by _ _ _ (c .before .before .args .self) _ (c .before .forward .result) _ (c .point-answer .ensures) (c .before .forward .ensures .0))
 
 pub project-spec : {M : Type 1} → statement M
 project-spec = tie.close (tie.spec forward-requires point-answer-requires returns)
