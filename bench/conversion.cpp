@@ -19,7 +19,7 @@ struct Pair {
 
 static const Pair PAIRS[] = {{SYSTEMS[1], SYSTEMS[0]}, {SYSTEMS[0], SYSTEMS[2]}, {SYSTEMS[4], SYSTEMS[3]}};
 
-// Two legs, each within 0.6 unit of the procedure.
+// Two legs, the ticks within 0.6 of the procedure and the plane point within 0.51 mm.
 static bool agrees(const PJ_COORD &plane, int64_t x, int64_t y) { return fabs(plane.xy.y * 1000 - x) < 1.5 && fabs(plane.xy.x * 1000 - y) < 1.5; }
 
 static int64_t peer_plane(PJ *peer, const PJ_COORD &metres) { return (int64_t)proj_trans(peer, PJ_FWD, metres).xy.x; }

@@ -56,7 +56,8 @@ extern "C" {
 
 /*
  * Latitude B and longitude L to the plane of a system.
- * answer: X, Y, scale, convergence, each within 0.6 of its unit of the published procedure as document 01 writes it out, with m0 in the scale.
+ * answer: X, Y, scale, convergence, each within 0.51 of its unit of the published procedure as document 01 writes it out, with m0 in the scale. So another
+ * terminal that keeps to 0.51 too answers the same, or one unit beside where the procedure's value lies within 0.01 of a half.
  * Refusals, in this order: 1, 2, 3, 10. On a refusal answer holds what it held.
  */
 uint8_t misgwalor_forward(uint8_t code, int64_t b, int64_t l, int64_t answer[4]);
@@ -70,14 +71,15 @@ uint8_t misgwalor_inverse(uint8_t code, int64_t x, int64_t y, int64_t answer[2])
 
 /*
  * A plane point of one system to the plane of another on the same ellipsoid.
- * answer: X, Y: exactly those that misgwalor_forward gives in `to` for the B, L that misgwalor_inverse gives in `from`. With equal codes the point is
- * checked as misgwalor_inverse checks it, and answered as it was given.
+ * answer: X, Y: exactly those that misgwalor_forward gives in `to` for the B, L that misgwalor_inverse gives in `from`, so each leg lies in its band: the B,
+ * L between within 0.6 tick of the procedure, and X, Y within 0.51 mm of the procedure's for that B, L. With equal codes the point is checked
+ * as misgwalor_inverse checks it, and answered as it was given.
  * Refusals, in this order: 1 (from, then to), 5, 4, 10, 2, 3 (from, then to), 10. On a refusal answer holds what it held.
  */
 uint8_t misgwalor_plane_to_plane(uint8_t from, uint8_t to, int64_t x, int64_t y, int64_t answer[2]);
 
 /*
- * A whole ring from one system to another: each corner as misgwalor_plane_to_plane takes it.
+ * A whole ring from one system to another: each corner as misgwalor_plane_to_plane takes it, in the same band.
  * out: on 0 the first `numbers` of its numbers are the converted corners in order, and the numbers past them are as they were. On a refusal all of out
  * is as it was, also where a late corner is refused.
  * Refusals, in this order: 1 (from, then to), 5, 6, 7, 8, 14 (out_numbers is less than numbers), then those of the corners in order; the first wins.

@@ -2,8 +2,8 @@
 
     python3 reference/definition_against_truth.py [STEPS]
 
-Differences are in the units of the answers; a last line says how far the scale before m0 lies from 1 on the central meridian. The answers are held to the definition by the band of 0.6; this says what the judgement by true functions adds
-to it. Assumes Python 3.9 or newer and its standard library.
+Differences are in the units of the answers; a last line says how far the scale before m0 lies from 1 on the central meridian. The answers are held to the definition by
+the band, 0.51 or of ticks 0.6; this says what the judgement by true functions adds to it. Assumes Python 3.9 or newer and its standard library.
 """
 
 import sys

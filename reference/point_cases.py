@@ -6,7 +6,7 @@
 
 writes `stdin` and `stdout` of that test program. A record is eight numbers of 8 bytes, signed, little-endian: group, three arguments, what is expected, and the
 true values in millionths of a unit (forward has four, and packs its code with the group; see `record`). Expected is 0 for an answer, which then has to be the
-nearest whole number; 255 for an answer that lies so near a tie that only the band of 0.6 judges it; or the number of a refusal. The output has one line for each
+nearest whole number; 255 for an answer that lies so near a tie that only the band judges it, 0.51 or of ticks 0.6; or the number of a refusal. The output has one line for each
 group. Assumes Python 3.9 or newer and its standard library.
 """
 
@@ -26,7 +26,8 @@ NEAR_A_TIE = 255
 PLANE_MARGIN, TICK_MARGIN = Decimal("0.005"), Decimal("0.02")
 # "the definition leaves these within 0.6 tick of a limit open"
 OPEN_MARGIN = Decimal("0.7")
-OUTSIDE = 600_000
+# The bands in millionths: plane answers, scale and convergence, and ticks.
+BANDS = {"forward": 510_000, "inverse": 600_000, "plane": 510_000}
 OTHER_CODES = (0, 15, 16, 99, 128, 254, 255)
 
 
@@ -225,7 +226,8 @@ def record(call, group, arguments, expected, values):
 class Tally:
     """What the test program says of a group."""
 
-    def __init__(self):
+    def __init__(self, band):
+        self.band = band
         self.points = self.near = self.refused = 0
         self.largest = [0, 0, 0, 0]
 
@@ -238,7 +240,7 @@ class Tally:
             self.points += 1
             for k, value in enumerate(values):
                 distance = abs(projection.nearest(value) * MILLION - millionths(value))
-                assert distance < OUTSIDE
+                assert distance < self.band
                 self.largest[k] = max(self.largest[k], distance // 1000)
 
     def line(self, call, group):
@@ -257,7 +259,7 @@ def main(call, folder):
             continue
         arguments, expected, values = case
         taken += record(call, group, arguments, expected, values)
-        tallies.setdefault(group, Tally()).add(expected, values)
+        tallies.setdefault(group, Tally(BANDS[call])).add(expected, values)
     lines = [tally.line(call, group) for group, tally in tallies.items()]
     (folder / "stdin").write_bytes(taken)
     (folder / "stdout").write_text("".join(lines))

@@ -23,21 +23,21 @@ NEAR_A_TIE = 255
 # ---- vectors
 
 
-def against_vectors(name, answer):
-    """Where the gate asks the nearest whole number the model has to give it too, near a tie one within the band of 0.6. How many numbers it gave."""
+def against_vectors(name, answer, band):
+    """Where the gate asks the nearest whole number the model has to give it too, near a tie one within the band. How many numbers it gave."""
     held = 0
     for code, first, second, expected, *values in struct.iter_unpack("<8q", (CRATES / name / "stdin").read_bytes()):
         if expected not in (0, NEAR_A_TIE):
             continue
         for number, value in zip(answer(SYSTEMS[code], first, second), values):
-            if abs(number * 10**6 - value) > (600_000 if expected else 500_000):
+            if abs(number * 10**6 - value) > (band if expected else 500_000):
                 sys.exit("worked: the model answers %d to %s of %s, where %d millionths is true" % (number, (code, first, second), name, value))
             held += 1
     return held
 
 
 def vectors():
-    held = against_vectors("forward_vectors", worked.answer_forward) + against_vectors("inverse_vectors", worked.answer_inverse)
+    held = against_vectors("forward_vectors", worked.answer_forward, 510_000) + against_vectors("inverse_vectors", worked.answer_inverse, 600_000)
     print("worked: the model answers the %d numbers of forward_vectors and inverse_vectors as the code does" % held)
 
 

@@ -9,8 +9,8 @@
 #include "random.h"
 #include "report.h"
 
-/* An answer lies within this of the procedure's value (docs/EXCEPTIONS.md). */
-static const long double BAND = 0.6L;
+/* An answer lies within this of the procedure's value (docs/EXCEPTIONS.md): plane, scale and convergence; ticks. */
+static const long double BAND[2] = {0.51L, 0.6L};
 
 /* After an inverse, 2 and 3 are judged on the ticks that would be answered; this near to a limit both answers are allowed. */
 static const long double OPEN_TICKS = 1;
@@ -24,7 +24,7 @@ long double farthest[2]; /* the largest distances seen: plane, scale and converg
 static int in_band(int64_t answered, int64_t offset, long double value, int kind) {
     long double distance = fabsl((long double)(answered - offset) - value);
     if (distance > farthest[kind]) farthest[kind] = distance;
-    return distance <= BAND;
+    return distance <= BAND[kind];
 }
 
 /* ---- forward */

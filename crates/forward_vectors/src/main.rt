@@ -77,7 +77,7 @@ fn one_record(groups: Groups) -> Turn {
 }
 
 fn main() {
-    let mut groups = Groups::new();
+    let mut groups = Groups::new(vectors::PLANE_BAND);
     let mut turns: u64 = 0;
     while turns < 1000000 {
         let turn = one_record(groups);

@@ -41,9 +41,10 @@ fn group_of(code: u64) -> u64 {
 }
 
 impl Groups {
-    pub fn new() -> Groups {
+    // None yet; the answers of every group are held to one band, in millionths.
+    pub fn new(band: u64) -> Groups {
         Groups {
-            tally: Tally::new(),
+            tally: Tally::new(band),
             group: 0,
             begun: false,
         }
@@ -64,7 +65,7 @@ impl Groups {
             return self.tally;
         }
         self.close(name);
-        Tally::new()
+        Tally::new(self.tally.band)
     }
 
     // The run with one record more.

@@ -12,6 +12,8 @@ pub use groups::target_of;
 pub use lists::number_room;
 pub use lists::take_list;
 pub use tally::Outcome;
+pub use tally::PLANE_BAND;
+pub use tally::TICK_BAND;
 pub use tally::Tally;
 pub use tally::distance;
 ghost use Prim.Native.Nat.{_+_, _≤_, _<_};

@@ -1,12 +1,14 @@
-// What a test program says of the answers of one group of records: how many there were, how many lie outside the band, and the largest distance from the true
+// What a test program says of the answers of one group of records: how many there were, how many lie outside their band, and the largest distance from the true
 // value. A record expects 0, an answer that is the nearest whole number; 255, an answer so near a tie that only the band judges it; or a refusal's number.
 // Assumes nothing.
 use crate::put;
 use crate::put_natural;
 use crate::size;
 
-// The band of 0.6 unit, and what stands for any distance that is not worth its number, in millionths.
-const BAND: u64 = 600000;
+// In millionths of a unit: the bands of plane answers, scale and convergence, and of ticks; and what stands for any distance that is not worth its number.
+pub const PLANE_BAND: u64 = 510000;
+
+pub const TICK_BAND: u64 = 600000;
 
 const FAR: u64 = 1000000000000;
 
@@ -17,6 +19,7 @@ pub enum Outcome {
 }
 
 pub struct Tally {
+    pub band: u64,
     pub points: u64,
     pub near: u64,
     pub outside: u64,
@@ -40,8 +43,8 @@ fn apart(a: u64, b: u64) -> u64 {
     if a < b { b - a } else { a - b }
 }
 
-fn within(a: u64, b: u64, c: u64, d: u64) -> bool {
-    larger(larger(a, b), larger(c, d)) <= BAND
+fn within(band: u64, a: u64, b: u64, c: u64, d: u64) -> bool {
+    larger(larger(a, b), larger(c, d)) <= band
 }
 
 // The sum of two sizes, for numbers on either side of 0.
@@ -76,8 +79,9 @@ pub fn distance(answer: i64, millionths: i64) -> u64 {
 }
 
 impl Tally {
-    pub fn new() -> Tally {
+    pub fn new(band: u64) -> Tally {
         Tally {
+            band: band,
             points: 0,
             near: 0,
             outside: 0,
@@ -108,12 +112,14 @@ impl Tally {
         self.second = larger(self.second, b);
         self.third = larger(self.third, c);
         self.fourth = larger(self.fourth, d);
-        self.with_band(within(a, b, c, d))
+        let held = within(self.band, a, b, c, d);
+        self.with_band(held)
     }
 
     fn with_near(mut self, a: u64, b: u64, c: u64, d: u64) -> Tally {
         self.near = more(self.near);
-        self.with_band(within(a, b, c, d))
+        let held = within(self.band, a, b, c, d);
+        self.with_band(held)
     }
 
     fn with_refusal(mut self, expected: u64, refusal: u64) -> Tally {
