@@ -65,6 +65,7 @@ impl Job {
         }
     }
 
+    // One record: the rules' step; what a point (kind 5) is answered lies in the forward's band.
     pub fn take(self, item: Record) -> Taken
         ensures worked { λ r. ⌜ Stepping (stepped worked-forward (view self) item) item self r ⌝ }
         ensures band { λ r. ⌜ Right-stepping forward-finite item self r ⌝ }

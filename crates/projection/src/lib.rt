@@ -67,7 +67,7 @@ pub fn forward(code: u8, b: i64, l: i64) -> ForwardAnswer
     }
 }
 
-// X and Y alone, for rings and plane to plane: as forward, refusals 1, 2, 3, 10.
+// X and Y alone, for rings and plane to plane: as forward, in its band and with its refusals 1, 2, 3, 10.
 pub fn forward_plane(code: u8, b: i64, l: i64) -> PlaneAnswer
     ensures worked { λ r. ⌜ plane-paper r ≡ plane-of (worked-forward code b l) ⌝ }
     ensures band { λ r. ⌜ Shows (Right-forward (forward-finite code b l) code b l) plane-of (plane-paper r) ⌝ }
