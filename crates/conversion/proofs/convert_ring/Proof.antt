@@ -1,6 +1,7 @@
 use mathlib.Core.Path.{_≡_, sym, ap, _∙_}
 use Rattle.rules.specs.Conversion.{verdict, held, Right-conversion}
-use Rattle.rules.specs.Laws.Legs.{both-shown, conversion-right}
+use Rattle.rules.specs.Laws.Clauses.{both-shown}
+use Rattle.rules.specs.Laws.Legs.{conversion-right}
 use Rattle.projection.specs.Laws.Right.{right}
 use Rattle.conversion.specs.Codes.{verdict-paper}
 use Rattle.conversion.specs.Ring.{worked-conversion}

@@ -1,7 +1,8 @@
 use mathlib.Core.Path.{_≡_, sym, ap, ap₂, _∙_}
 use mir.Facts.{toZ-ofZ}
 use Rattle.rules.specs.Points.{Right-plane}
-use Rattle.rules.specs.Laws.Legs.{banded, plane-right}
+use Rattle.rules.specs.Laws.Clauses.{banded}
+use Rattle.rules.specs.Laws.Legs.{plane-right}
 use Rattle.projection.specs.Laws.Right.{right}
 use Rattle.conversion.specs.Codes.{verdict-paper}
 use Rattle.conversion.specs.Plane.{carried}

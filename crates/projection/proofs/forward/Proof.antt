@@ -2,7 +2,7 @@
 use mathlib.Core.Path.{_≡_, sym, ap, ap₂, _∙_, subst}
 use mir.Facts.{toZ-ofZ}
 use Rattle.rules.specs.Points.{Right-forward}
-use Rattle.rules.specs.Laws.Legs.{banded}
+use Rattle.rules.specs.Laws.Clauses.{banded}
 use Rattle.systems.specs.Zones.{Found}
 use Rattle.projection_worked.specs.Worked.{worked-forward}
 use Rattle.projection_worked.specs.Laws.Point.{forward-right}

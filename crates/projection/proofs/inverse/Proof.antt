@@ -2,7 +2,7 @@
 use mathlib.Core.Path.{sym, ap₂, _∙_, subst}
 use mir.Facts.{toZ-ofZ}
 use Rattle.rules.specs.Points.{Right-inverse}
-use Rattle.rules.specs.Laws.Legs.{banded}
+use Rattle.rules.specs.Laws.Clauses.{banded}
 use Rattle.systems.specs.Zones.{Found}
 use Rattle.systems.specs.declared.ZoneAnswer.the-variants.{Known}
 use Rattle.projection_worked.specs.Inverse.{in-system}

@@ -2,11 +2,11 @@
 -- One law for the definition's own answers and for any code's. Assumes nothing.
 use mathlib.Core.Bool.{Bool}
 use mathlib.Core.List.{List}
-use mathlib.Core.Path.{_≡_, refl, sym, subst}
+use mathlib.Core.Path.{_≡_, refl}
 use Prim.Native.Nat.{ℕ}
 use lib.IntN.{ℤ}
 use Rattle.rules.specs.Refusals.{Answer}
-use Rattle.rules.specs.Points.{Point, Ticks, Right, Shows, Shows-both, plane-by, Right-plane}
+use Rattle.rules.specs.Points.{Point, Ticks, Right, plane-by, Right-plane}
 use Rattle.rules.specs.Conversion.{conversion-by, Right-conversion}
 use Rattle.rules.specs.JobFile.{job-by, Right-job}
 
@@ -29,15 +29,3 @@ module _ {forward-finite inverse-finite : ℕ → ℤ → ℤ → Bool} {forward
 
   pub job-right : (file : List ℕ) → Right-job forward-finite file (job-by forward-at file)
   job-right file = (forward-at, right .forward-right, refl)
-
--- ---- a call's promises at once, from its first: it answers the worked value, or shows a part of it, and the worked value is right
-pub banded : {A : Type 0} (right : A → Type 0) {answer worked : A} → right worked → answer ≡ worked → (answer ≡ worked) × right answer
-banded right h e = (e, subst right (sym e) h)
-
-pub shown : {A B : Type 0} {right : Answer A → Type 0} (part : Answer A → B) {worked : Answer A} {seen : B} → right worked → seen ≡ part worked
-    → (seen ≡ part worked) × Shows right part seen
-shown part {worked} h e = (e, (worked, h, e))
-
-pub both-shown : {A B C : Type 0} (right : Answer A → Type 0) (returned : Answer A → B) (memory : Answer A → C) (worked : Answer A) {r : B} {m : C} → right worked
-    → (r ≡ returned worked) × (m ≡ memory worked) → (r ≡ returned worked) × ((m ≡ memory worked) × Shows-both right returned memory r m)
-both-shown right returned memory worked h e = (e .0, (e .1, (worked, h, e .0, e .1)))

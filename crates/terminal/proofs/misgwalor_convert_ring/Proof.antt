@@ -5,7 +5,8 @@ use lib.IntN.{ℤ}
 use borrow.Author.Needs.{needs}
 use Rattle.rules.specs.Refusals.{Answer}
 use Rattle.rules.specs.Conversion.{held, Right-conversion}
-use Rattle.rules.specs.Laws.Legs.{both-shown, conversion-right}
+use Rattle.rules.specs.Laws.Clauses.{both-shown}
+use Rattle.rules.specs.Laws.Legs.{conversion-right}
 use Rattle.rings.specs.Answers.{refusal-of}
 use Rattle.projection.specs.Inverse.{inverse-finite}
 use Rattle.projection.specs.Worked.{forward-finite}

@@ -4,7 +4,7 @@ use mir.Facts.{toZ-ofZ}
 use borrow.Author.Needs.{needs}
 use Rattle.rules.specs.Refusals.{Answer}
 use Rattle.rules.specs.Points.{Ticks, Right-inverse}
-use Rattle.rules.specs.Laws.Legs.{both-shown}
+use Rattle.rules.specs.Laws.Clauses.{both-shown}
 use Rattle.rings.specs.Answers.{refusal-of}
 use Rattle.projection.specs.Answers.{inverse-paper}
 use Rattle.projection.specs.Inverse.{worked-inverse}

@@ -5,7 +5,8 @@ use borrow.Author.Needs.{needs}
 use Rattle.rules.specs.Refusals.{Answer}
 use Rattle.rules.specs.Rings.{Corner}
 use Rattle.rules.specs.Points.{Right-plane}
-use Rattle.rules.specs.Laws.Legs.{both-shown, plane-right}
+use Rattle.rules.specs.Laws.Clauses.{both-shown}
+use Rattle.rules.specs.Laws.Legs.{plane-right}
 use Rattle.rings.specs.Answers.{refusal-of}
 use Rattle.projection.specs.Answers.{plane-paper}
 use Rattle.conversion.specs.Plane.{worked-plane}

@@ -41,35 +41,35 @@ enum-known-item-4 c = search needs
 point-requires : tie.Need-point-requires
 point-requires c κs = search needs
 
--- by a forward that is right, the worked one
-banded : {i : Record} {j : Job} {t : Taken} → Stepping (stepped worked-forward (view j) i) i j t → Stepping (stepped worked-forward (view j) i) i j t × Right-stepping forward-finite i j t
-banded h = (h, record { forward-at = worked-forward; forward-right = right .forward-right; steps = h })
+-- the worked forward is one that is right
+by-right-forward : {i : Record} {j : Job} {t : Taken} → Stepping (stepped worked-forward (view j) i) i j t → Stepping (stepped worked-forward (view j) i) i j t × Right-stepping forward-finite i j t
+by-right-forward h = (h, record { forward-at = worked-forward; forward-right = right .forward-right; steps = h })
 
 returns : tie.Need-returns
 returns c =
-    banded
+    by-right-forward
     (of-item worked-forward (view (c .before .before .before .before .args .self)) (c .before .before .item .given .1) (c .begin .ensures))
 
 returns-2 : tie.Need-returns-2
 returns-2 c =
-    banded
+    by-right-forward
     (of-item worked-forward (view (c .before .before .before .before .args .self)) (c .before .before .item2 .given .1)
     (read-two (λ X Y. stepped worked-forward (view (c .before .before .before .before .args .self)) (Corner X Y)) Corner _ _ (record { sfits = c .before .known-told2 .given .0 .1 }) (record { sfits = c .before .known-told2 .given .1 .0 .1 }) (c .corner .ensures)))
 
 returns-3 : tie.Need-returns-3
 returns-3 c =
-    banded
+    by-right-forward
     (of-item worked-forward (view (c .before .before .before .args .self)) (c .before .enum-told .given .1) (c .close .ensures))
 
 returns-4 : tie.Need-returns-4
 returns-4 c =
-    banded
+    by-right-forward
     (of-item worked-forward (view (c .before .before .before .before .args .self)) (c .before .before .item3 .given .1)
     (read-two (λ X Y. stepped worked-forward (view (c .before .before .before .before .args .self)) (Query X Y)) Query _ _ (record { sfits = c .before .known-told3 .given .0 .1 }) (record { sfits = c .before .known-told3 .given .1 .0 .1 }) (c .query .ensures)))
 
 returns-5 : tie.Need-returns-5
 returns-5 c =
-    banded
+    by-right-forward
     (of-item worked-forward (view (c .before .before .before .before .args .self)) (c .before .before .item4 .given .1)
     (read-two (λ B L. stepped worked-forward (view (c .before .before .before .before .args .self)) (Point (c .before .before .item4 .given .0 .0) B L)) (λ B L. Point (c .before .before .item4 .given .0 .0) B L) _ _ (record { sfits = c .before .known-told4 .given .1 .0 .1 }) (record { sfits = c .before .known-told4 .given .1 .1 .0 .1 }) (c .point .ensures)))
 
