@@ -17,6 +17,8 @@
 
 extern long double farthest[2];
 
+uint64_t random_state;
+
 int main(int argc, char **argv) {
     if (argc < 3 || (strcmp(argv[1], "all") != 0 && strcmp(argv[1], "rings") != 0)) {
         fprintf(stderr, "usage: %s all|rings ROUNDS [SEED]\n", argv[0]);

@@ -1,10 +1,10 @@
-/* Random numbers from a seed, the same on every machine (splitmix64). Assumes nothing. */
+/* Random numbers from a seed, the same on every machine (splitmix64); one row of them for all parts of the driver, which has it. Assumes nothing. */
 #ifndef RANDOM_H
 #define RANDOM_H
 
 #include <stdint.h>
 
-static uint64_t random_state;
+extern uint64_t random_state;
 
 static inline void random_seed(uint64_t seed) { random_state = seed; }
 
