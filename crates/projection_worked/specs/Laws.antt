@@ -1,5 +1,5 @@
 -- How near the worked values are to the definition's. Right: every answer of the forward and of the inverse is right by the rules.
--- Meridian: on the central meridian the scale is m0.
+-- Meridian: on the central meridian the scale is m0. Mirror: east and west of it answers and refusals are alike, there and back.
 -- InverseChecked, Sides, Undoing: laws that the functions' proofs cite.
 -- Examples: the false easting near a half.
 pub mod Examples
@@ -27,3 +27,5 @@ pub mod Right
 pub mod Sides
 pub mod Undoing
 pub mod InverseChecked
+pub mod MirrorParts
+pub mod Mirror

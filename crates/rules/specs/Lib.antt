@@ -2,7 +2,8 @@
 --   01, Units                            Units
 --   01, The systems                      Systems
 --   01, The projection as whole numbers  Scaled (arithmetic, series), Projection (forward, inverse), Rounding (nearest, the band), Polynomial (the step in f64),
---                                        Points (what forward, inverse and plane to plane answer), Terminals (02 (v): two answers that are both right)
+--                                        Points (what forward, inverse and plane to plane answer), Terminals (02 (v): two answers that are both right),
+--                                        EastWest (02 (xi): two points on either side of the central meridian)
 --   01, Rings                            Rings (the rules), Crossing (the crossing test, by computing), RingAnswers (checks and answers of a ring), Conversion
 --   01, The job file                     JobFile
 --   01, Refusal numbers and their order  Refusals (the numbers, and checks in order); each call's order stands in its own definition
@@ -18,6 +19,7 @@ pub mod Rounding
 pub mod Polynomial
 pub mod Points
 pub mod Terminals
+pub mod EastWest
 pub mod Rings
 pub mod Crossing
 pub mod RingAnswers

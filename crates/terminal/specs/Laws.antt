@@ -3,7 +3,9 @@
 --   Edges      the edge numbers of refusal 9 fit what C lends
 --   Zero       a call that returns 0 has answered
 --   Calls      so of the four calls of the projection
+--   EastWest   two calls on either side of the central meridian answer alike
 pub mod Lent
 pub mod Edges
 pub mod Zero
 pub mod Calls
+pub mod EastWest

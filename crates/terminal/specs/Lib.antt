@@ -1,3 +1,5 @@
--- What the terminal's contracts cite. Lent: what is owed for an answer. Laws: what is proved of it; not needed to read the contracts.
+-- What the terminal's contracts cite. Lent: what is owed for an answer. EastWest: two calls on either side of the central meridian. Laws: what is proved of them; not needed to
+-- read the contracts.
 pub mod Lent
+pub mod EastWest
 pub mod Laws

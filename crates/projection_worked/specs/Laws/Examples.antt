@@ -1,7 +1,8 @@
--- The trap of the false easting at two doubles near a half, by computation. 01: "Adding the false easting in f64 before rounding: near halves, east and west part."
+-- The trap of the false easting at two doubles near a half and at a half itself, by computation. 01: "Adding the false easting in f64 before rounding: near halves, east and west part."
 -- And a scale with m0 in it. Assumes nothing.
 use mathlib.Core.Path.{_≡_, refl}
 use mathlib.Core.Bool.{Bool, true, false}
+use Prim.Native.Nat.{ℕ, _+_, _-_}
 use lib.IntN.{ℤ, pos, negsuc}
 use lib.Ieee.{Float, fin}
 use Rattle.rules.specs.Refusals.{Answer, answered, _>>=_}
@@ -34,20 +35,25 @@ opened = true
 abbrev in-13 : Bool → Float → Answer ℤ
 in-13 west p = system 13 >>= λ s. answered (beside-Y s west p)
 
--- 187 mm to either side of the meridian
-pub record Mirrored (p : Float) : Type 0 where
-  pub east : in-13 false p ≡ answered (pos 8_500_000_187)
-  pub west : in-13 true p ≡ answered (pos 8_499_999_813)
+-- n mm to either side of the meridian
+pub record Mirrored (p : Float) (n : ℕ) : Type 0 where
+  pub east : in-13 false p ≡ answered (pos (8_500_000_000 + n))
+  pub west : in-13 true p ≡ answered (pos (8_500_000_000 - n))
 
 -- 187.5 mm less 2 ^ -40 m, of which f64 keeps nothing beside 8,500,000 m: its doubles are 2 ^ -29 m apart there, so the sum would be the half itself
-pub swallowed : Mirrored (fin false 206_158_430_207 (negsuc 39))
+pub swallowed : Mirrored (fin false 206_158_430_207 (negsuc 39)) 187
 unfolding opened
 swallowed = record { east = refl; west = refl }
 
 -- 187.5 mm less 2 ^ -25 m, which f64 keeps: the sum to the west alone would go down to the half
-pub parted : Mirrored (fin false 6_291_455 (negsuc 24))
+pub parted : Mirrored (fin false 6_291_455 (negsuc 24)) 187
 unfolding opened
 parted = record { east = refl; west = refl }
+
+-- 62.5 mm, a half itself: to the even on either side, whatever the offset
+pub tied : Mirrored (fin false 1 (negsuc 3)) 62
+unfolding opened
+tied = record { east = refl; west = refl }
 
 -- ---- the scale at 52° and 1° east of the meridian of code 14, whose m0 is 0.999983, of the derivative there; without m0 it would be 1,000,057,877
 unfoldable followed : Bool

@@ -1,17 +1,17 @@
 -- The inverse is right: refused as the rules say, and else ticks within 0.52 of the definition's, judged by refusals 2 and 3. And no point that passes
 -- refusals 1 and 4 comes to refusal 10. Assumes nothing.
-use mathlib.Core.Bool.{Bool, true, false, not}
+use mathlib.Core.Bool.{true, false}
 use mathlib.Core.Path.{_≡_, refl, sym, _∙_, ap, ap₂, subst}
 use mathlib.Core.List.{[], _∷_}
-use Prim.Native.Nat.{ℕ, _*_, _≤_}
-use native.Mathlib.Omega.{arith}
-use lib.IntN.{ℤ, pos, natAbs, _+ℤ_, _-ℤ_, _*ℤ_}
+use Prim.Native.Nat.{ℕ}
+use lib.IntN.{ℤ, natAbs, _+ℤ_, _-ℤ_}
 use Rattle.arith.specs.Laws.Ring.{ring, Z·ring, by-ring}
-use Rattle.rules.specs.Refusals.{Answer, answered, refused, crossed-at, _>>=_, _>>_, _if_, plane-outside, step-not-finite}
+use Rattle.rules.specs.Refusals.{Answer, answered, refused, crossed-at, _>>=_}
 use Rattle.rules.specs.Systems.{System, system, constants, b-coefficients}
-use Rattle.rules.specs.Scaled.{unit, polynomial}
+use Rattle.rules.specs.Scaled.{polynomial}
 use Rattle.rules.specs.Scaled as scaled
 use Rattle.rules.specs.Rounding.{Within}
+use Rattle.rules.specs.Laws.Checks.{inverse-passed}
 use Rattle.rules.specs.Laws.OwnAnswers.{wider}
 use Rattle.rules.specs.Projection as Unrounded
 use Rattle.rules.specs.Points.{offset-X, offset-Y, plane-bad, inverse-checks, judged, Near-inverse, Right-inverse, Right-inverse-by}
@@ -20,7 +20,7 @@ use Rattle.double.specs.Laws.Never.{passes}
 use Rattle.fixed.specs.Laws.Turned.{below-zero}
 use Rattle.fixed_inverse.specs.Laws.Inverse.{definition, latitude-band, difference-band}
 use Rattle.projection_worked.specs.Worked.{both-finite, millionths-of, below-nought}
-use Rattle.projection_worked.specs.Inverse.{mercator-pair, latitude-from, difference-from, worked-pair, worked-ticks, finite-in, inverse-finite, worked-inverse}
+use Rattle.projection_worked.specs.Inverse.{latitude-from, difference-from, worked-pair, worked-ticks, finite-in, inverse-finite, worked-inverse}
 use Rattle.projection_worked.specs.Laws.InverseUndone.{defined-length}
 use Rattle.projection_worked.specs.Laws.InverseRange.{box-placed}
 use Rattle.projection_worked.specs.Laws.InverseBox.{Millionths, system-millionths, north-is, boxed}
@@ -71,21 +71,7 @@ module _ (s : System) (m : Millionths s (millionths-of s)) (X Y : ℤ) (p : plan
   unfolding worked-pair
   pair-finite = passes (worked-pair s X Y) (box-placed (s .ellipsoid) (boxed s (millionths-of s) m X Y p) .tame .numbers)
 
--- ---- what an answer of the checks says
-passed-4 : (a : Answer System) (f : Bool) (s : System) (X Y : ℤ) → (a >>= λ s. plane-outside if plane-bad s X Y >> (step-not-finite if not f >> answered s)) ≡ answered s → (a ≡ answered s) × (plane-bad s X Y ≡ false)
-passed-4 (refused n) f s X Y e = absurd (let z : _≡_ {A = ℕ} 0 1 = cc in omega arith)
-passed-4 (crossed-at i j) f s X Y e = absurd (let z : _≡_ {A = ℕ} 0 1 = cc in omega arith)
-passed-4 (answered r) f s X Y e = go (plane-bad r X Y) refl f e
-  where
-    go : (b : Bool) → plane-bad r X Y ≡ b → (f : Bool) → (plane-outside if b >> (step-not-finite if not f >> answered r)) ≡ answered s → (answered r ≡ answered s) × (plane-bad s X Y ≡ false)
-    go true g f e = absurd (let z : _≡_ {A = ℕ} 0 1 = cc in omega arith)
-    go false g false e = absurd (let z : _≡_ {A = ℕ} 0 1 = cc in omega arith)
-    go false g true e = let i : r ≡ s = cc in (e, subst (λ t. plane-bad t X Y ≡ false) i g)
-
-pub inverse-passed : (f : Bool) (code : ℕ) (s : System) (X Y : ℤ) → inverse-checks f code X Y ≡ answered s → (system code ≡ answered s) × (plane-bad s X Y ≡ false)
-unfolding inverse-checks
-inverse-passed f code s X Y e = passed-4 (system code) f s X Y e
-
+-- ---- every point
 module _ (code : ℕ) (X Y : ℤ) where
   by-checks : (a : Answer System) → inverse-checks (inverse-finite code X Y) code X Y ≡ a → Right-inverse-by X Y a (a >>= λ s. judged s (worked-ticks s X Y))
   by-checks (answered s) e =

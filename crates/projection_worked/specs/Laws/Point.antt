@@ -1,22 +1,20 @@
 -- The forward is right: refused as the rules say, and else X, Y, scale and convergence within 0.51 of the definition's. Assumes nothing.
-use mathlib.Core.Bool.{Bool, true, false, not}
+use mathlib.Core.Bool.{true, false}
 use mathlib.Core.Path.{_≡_, refl, sym, _∙_, ap, ap₂, subst}
-use mathlib.Core.List.{List, [], _∷_}
+use mathlib.Core.List.{[], _∷_}
 use Prim.Native.Nat.{ℕ, _*_, _^_, _≤_}
 use native.Mathlib.Nat.{le-trans}
-use native.Mathlib.Omega.{arith}
 use lib.IntN.{ℤ, pos, natAbs, _+ℤ_, _-ℤ_, _*ℤ_}
 use Rattle.arith.specs.Laws.Ring.{ring, Z·ring, by-ring}
 use Rattle.rules.specs.Units.{_°_′_″, units-in-scale, half-turn-in-thousandths}
-use Rattle.rules.specs.Refusals.{Answer, answered, refused, crossed-at, _>>=_, _>>_, _if_, latitude-outside, longitude-outside, step-not-finite}
+use Rattle.rules.specs.Refusals.{Answer, answered, refused, crossed-at, _>>=_}
 use Rattle.rules.specs.Systems.{_/10^_, System, system, constants, a-coefficients}
-use Rattle.rules.specs.Scaled.{unit, radians, sine, cosine, turned-to, polynomial, derivative}
+use Rattle.rules.specs.Scaled.{radians, sine, cosine, turned-to, polynomial, derivative}
 use Rattle.rules.specs.Scaled as scaled
 use Rattle.rules.specs.Rounding.{Within}
 use Rattle.rules.specs.Projection as Unrounded
-use Rattle.rules.specs.Points.{Point, offset-X, offset-Y, latitude-bad, longitude-bad, forward-checks, Near-forward, Right-forward, Right-forward-by}
-use Rattle.rules.specs.Laws.Checks.{longitude-exact}
-use Rattle.fixed.specs.Nearness.{turned}
+use Rattle.rules.specs.Points.{offset-X, offset-Y, latitude-bad, longitude-bad, forward-checks, Near-forward, Right-forward, Right-forward-by}
+use Rattle.rules.specs.Laws.Checks.{longitude-exact, forward-passed}
 use Rattle.fixed.specs.Laws.Turned.{below-zero, turned-size}
 use Rattle.fixed_bands.specs.Bands.{Latitude}
 use Rattle.fixed_forward.specs.Mercator.{sphere-at, mercator-at}
@@ -80,25 +78,7 @@ module _ (s : System) (m : Millionths s (millionths-of s)) (B L : ℤ) (h : lati
   unfolding worked-point
   point-near = subst (λ v. Near-forward s v (worked-point s B d)) (sym same-definition) (record { X = X-right; Y = Y-right; scale = scale-right; convergence = convergence-right })
 
--- ---- what an answer of the checks says
-passed-3 : (a : Answer System) (f : Bool) (s : System) (B L : ℤ)
-    → (a >>= λ s. latitude-outside if latitude-bad B >> (longitude-outside if longitude-bad s L >> (step-not-finite if not f >> answered s))) ≡ answered s
-    → (a ≡ answered s) × (latitude-bad B ≡ false) × (longitude-bad s L ≡ false)
-passed-3 (refused n) f s B L e = absurd (let z : _≡_ {A = ℕ} 0 1 = cc in omega arith)
-passed-3 (crossed-at i j) f s B L e = absurd (let z : _≡_ {A = ℕ} 0 1 = cc in omega arith)
-passed-3 (answered r) f s B L e = go (latitude-bad B) refl (longitude-bad r L) refl f e
-  where
-    go : (b : Bool) → latitude-bad B ≡ b → (c : Bool) → longitude-bad r L ≡ c → (f : Bool)
-        → (latitude-outside if b >> (longitude-outside if c >> (step-not-finite if not f >> answered r))) ≡ answered s → (answered r ≡ answered s) × (latitude-bad B ≡ false) × (longitude-bad s L ≡ false)
-    go true g c k f e = absurd (let z : _≡_ {A = ℕ} 0 1 = cc in omega arith)
-    go false g true k f e = absurd (let z : _≡_ {A = ℕ} 0 1 = cc in omega arith)
-    go false g false k false e = absurd (let z : _≡_ {A = ℕ} 0 1 = cc in omega arith)
-    go false g false k true e = let i : r ≡ s = cc in (e, g, subst (λ t. longitude-bad t L ≡ false) i k)
-
-pub forward-passed : (f : Bool) (code : ℕ) (s : System) (B L : ℤ) → forward-checks f code B L ≡ answered s → (system code ≡ answered s) × (latitude-bad B ≡ false) × (longitude-bad s L ≡ false)
-unfolding forward-checks
-forward-passed f code s B L e = passed-3 (system code) f s B L e
-
+-- ---- every point
 within-reach : (code : ℕ) (s : System) (L : ℤ) → system code ≡ answered s → longitude-bad s L ≡ false → natAbs (L -ℤ s .L0) ≤ 5 ° 30 ′ 0 ″
 within-reach code s L e k = le-trans (longitude-exact s L .0 k) (system-narrow code s e)
 

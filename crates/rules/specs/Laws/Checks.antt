@@ -13,7 +13,7 @@ use lib.Signed.{ltZ, _≤ℤ_, _<ℤ_, ltZ-yes, ltZ-no, clashℤ, ≤ℤ-refl}
 use Rattle.arith.specs.Laws.Diff.{_⊖_, Z·ℕ, lin}
 use Rattle.arith.specs.Laws.Order.{≤ℤ-trans, <ℤ→≤ℤ}
 use Rattle.rules.specs.Units.{_°_′_″}
-use Rattle.rules.specs.Refusals.{Answer, answered, refused, _>>=_}
+use Rattle.rules.specs.Refusals.{Answer, answered, refused, crossed-at, _>>=_, _>>_, _if_, latitude-outside, longitude-outside, plane-outside, step-not-finite}
 use Rattle.rules.specs.Systems.{System, system}
 use Rattle.rules.specs.Scaled.{one}
 use Rattle.rules.specs.Points.{Ticks, above, latitude-bad, longitude-bad, plane-bad, metres-times-m0, offset-X, offset-Y, forward-checks, inverse-checks, judged}
@@ -111,6 +111,39 @@ module _ (f : Bool) (code : ℕ) (s : System) (X Y : ℤ) (e : system code ≡ a
   pub inverse-passes : plane-bad s X Y ≡ false → f ≡ true → inverse-checks f code X Y ≡ answered s
   unfolding inverse-checks
   inverse-passes g h = rw (e, g, h) refl
+
+-- ---- what an answer of the checks says
+passed-3 : (a : Answer System) (f : Bool) (s : System) (B L : ℤ)
+    → (a >>= λ s. latitude-outside if latitude-bad B >> (longitude-outside if longitude-bad s L >> (step-not-finite if not f >> answered s))) ≡ answered s
+    → (a ≡ answered s) × (latitude-bad B ≡ false) × (longitude-bad s L ≡ false)
+passed-3 (refused n) f s B L e = absurd (let z : _≡_ {A = ℕ} 0 1 = cc in omega arith)
+passed-3 (crossed-at i j) f s B L e = absurd (let z : _≡_ {A = ℕ} 0 1 = cc in omega arith)
+passed-3 (answered r) f s B L e = go (latitude-bad B) refl (longitude-bad r L) refl f e
+  where
+    go : (b : Bool) → latitude-bad B ≡ b → (c : Bool) → longitude-bad r L ≡ c → (f : Bool)
+        → (latitude-outside if b >> (longitude-outside if c >> (step-not-finite if not f >> answered r))) ≡ answered s → (answered r ≡ answered s) × (latitude-bad B ≡ false) × (longitude-bad s L ≡ false)
+    go true g c k f e = absurd (let z : _≡_ {A = ℕ} 0 1 = cc in omega arith)
+    go false g true k f e = absurd (let z : _≡_ {A = ℕ} 0 1 = cc in omega arith)
+    go false g false k false e = absurd (let z : _≡_ {A = ℕ} 0 1 = cc in omega arith)
+    go false g false k true e = let i : r ≡ s = cc in (e, g, subst (λ t. longitude-bad t L ≡ false) i k)
+
+pub forward-passed : (f : Bool) (code : ℕ) (s : System) (B L : ℤ) → forward-checks f code B L ≡ answered s → (system code ≡ answered s) × (latitude-bad B ≡ false) × (longitude-bad s L ≡ false)
+unfolding forward-checks
+forward-passed f code s B L e = passed-3 (system code) f s B L e
+
+passed-4 : (a : Answer System) (f : Bool) (s : System) (X Y : ℤ) → (a >>= λ s. plane-outside if plane-bad s X Y >> (step-not-finite if not f >> answered s)) ≡ answered s → (a ≡ answered s) × (plane-bad s X Y ≡ false)
+passed-4 (refused n) f s X Y e = absurd (let z : _≡_ {A = ℕ} 0 1 = cc in omega arith)
+passed-4 (crossed-at i j) f s X Y e = absurd (let z : _≡_ {A = ℕ} 0 1 = cc in omega arith)
+passed-4 (answered r) f s X Y e = go (plane-bad r X Y) refl f e
+  where
+    go : (b : Bool) → plane-bad r X Y ≡ b → (f : Bool) → (plane-outside if b >> (step-not-finite if not f >> answered r)) ≡ answered s → (answered r ≡ answered s) × (plane-bad s X Y ≡ false)
+    go true g f e = absurd (let z : _≡_ {A = ℕ} 0 1 = cc in omega arith)
+    go false g false e = absurd (let z : _≡_ {A = ℕ} 0 1 = cc in omega arith)
+    go false g true e = let i : r ≡ s = cc in (e, subst (λ t. plane-bad t X Y ≡ false) i g)
+
+pub inverse-passed : (f : Bool) (code : ℕ) (s : System) (X Y : ℤ) → inverse-checks f code X Y ≡ answered s → (system code ≡ answered s) × (plane-bad s X Y ≡ false)
+unfolding inverse-checks
+inverse-passed f code s X Y e = passed-4 (system code) f s X Y e
 
 pub judged-2 : (s : System) (t : Ticks) → latitude-bad (t .B) ≡ true → judged s t ≡ refused 2
 unfolding judged
