@@ -2,8 +2,9 @@
 
     python3 reference/definition_against_truth.py [STEPS]
 
-Differences are in the units of the answers; a last line says how far the scale before m0 lies from 1 on the central meridian. The answers are held to the definition by
-the band, 0.51 or of ticks 0.6; this says what the judgement by true functions adds to it. Assumes Python 3.9 or newer and its standard library.
+Differences are in the units of the answers; two last lines say how far the scale before m0 lies from 1 on the central meridian, and how far the definition's own values part
+east and west of it. The answers are held to the definition by the band, 0.51 or of ticks 0.6; this says what the judgement by true functions adds to it. Assumes Python 3.9
+or newer and its standard library.
 """
 
 import sys
@@ -52,6 +53,18 @@ def beside_one(system):
     return max(abs(Decimal(scale) / (10**9 * definition.scaled(system.m0)) - 1) for scale in scales)
 
 
+def apart_there(system, steps):
+    """How far the definition's X, Y, scale and convergence part on either side of the meridian."""
+    pairs = ((definition.forward(system, B, L), definition.forward(system, B, 2 * system.L0 - L)) for B, L in forward_grid(system, steps))
+    return max(abs(Decimal(number)) for east, west in pairs for number in (east[0] - west[0], east[1] + west[1], east[2] - west[2], east[3] + west[3])) / UNIT
+
+
+def apart_back(system, steps):
+    """The same of its B and L."""
+    pairs = ((definition.inverse(system, X, Y), definition.inverse(system, X, 2000 * system.y0 - Y)) for X, Y in box_grid(system, steps))
+    return max(abs(Decimal(number)) for east, west in pairs for number in (east[0] - west[0], east[1] + west[1])) / UNIT
+
+
 def largest(differences):
     return [max(column) for column in zip(*differences)]
 
@@ -63,6 +76,8 @@ def main(steps):
         back = largest([inverse_difference(system, X, Y) for X, Y in box_grid(system, steps)])
         print("%4d %s" % (system.code, " ".join("%7.1e" % value for value in there + back)))
     print("scale before m0, on the central meridian at every whole minute: %.1e from 1 on GRS-80, %.1e on Krasovsky" % (beside_one(SYSTEMS[1]), beside_one(SYSTEMS[8])))
+    there, back = (max(apart(system, steps) for system in SYSTEMS.values()) for apart in (apart_there, apart_back))
+    print("the definition's own values, east and west of the meridian: %.1e unit apart, back %.1e tick" % (there, back))
 
 
 if __name__ == "__main__":

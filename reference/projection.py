@@ -15,6 +15,7 @@ ONE = Decimal(1)
 HALF_TURN_TICKS = 180 * DEGREE
 HALF_TURN_THOUSANDTHS = 180 * 3600 * 1000
 STEP = Decimal("0.000002")
+TINY = Decimal("1e-40")
 LOW_B, HIGH_B = 48 * DEGREE, 56 * DEGREE
 LOW_X, HIGH_X, SIZE_Y = 5_300_000_000, 6_250_000_000, 420_000_000
 LARGEST_NUMBER, LARGEST_SPAN = 10**10, 20_000_000
@@ -195,11 +196,24 @@ def ring_conversion(source, target, numbers, output):
     return 0, converted + list(output[len(converted) :])
 
 
+def mirror_test(system):
+    """East and west alike, 02 (xi), there and back."""
+    middle = 1000 * system.y0
+    for d in (1, system.half_width // 3, system.half_width):
+        east, west = (forward(system.code, 52 * DEGREE, system.L0 + side * d)[1] for side in (1, -1))
+        assert all(abs(a - b) < TINY for a, b in zip(east, (west[0], 2 * middle - west[1], west[2], -west[3])))
+        X, Y = nearest(east[0]), nearest(east[1])
+        there, back = inverse(system.code, X, Y)[1], inverse(system.code, X, 2 * middle - Y)[1]
+        assert abs(there[0] - back[0]) < TINY and abs(there[1] + back[1] - 2 * system.L0) < TINY
+    assert forward(system.code, 52 * DEGREE, system.L0 + system.half_width + 1)[0] == forward(system.code, 52 * DEGREE, system.L0 - system.half_width - 1)[0] == 3
+
+
 def self_test():
     true.self_test()
     for system in SYSTEMS.values():
         refusal, numbers = forward(system.code, 52 * DEGREE, system.L0)
         assert refusal == 0 and numbers[1] == 1000 * system.y0 and numbers[3] == 0
+        mirror_test(system)
     # The Run list of document 01
     assert forward(1, 48 * DEGREE, 19 * DEGREE)[0] == 0 and forward(1, 48 * DEGREE - 1, 19 * DEGREE)[0] == 2
     edge = 16 * DEGREE + DEGREE // 2

@@ -15,6 +15,10 @@ void ring_cases(uint64_t rounds);
 /* Random points: forward, inverse, plane to plane. */
 void point_cases(uint64_t rounds);
 
+/* East and west alike: a point and its mirror about the central meridian, forward and back. */
+void mirror_forward(uint8_t code, int64_t b, int64_t l);
+void mirror_inverse(uint8_t code, int64_t x, int64_t y);
+
 /* Random rings to convert: with the projection, each corner is held to misgwalor_plane_to_plane. */
 void conversion_cases(uint64_t rounds);
 

@@ -128,13 +128,15 @@ void point_cases(uint64_t rounds) {
         int64_t b, l, x, y;
         random_ticks(system, &b, &l);
         try_forward(code, b, l);
+        mirror_forward(code, b, l);
         random_plane(system_of(code) ? code : 1, system, &x, &y);
         try_inverse(code, x, y);
+        mirror_inverse(code, x, y);
         try_plane(code, to, x, y);
     }
 }
 
-/* ---- the central meridian: d = 0 gives Y = y0 exactly and no convergence, and the scale is m0 itself */
+/* ---- the central meridian: d = 0 gives Y = y0 exactly and no convergence, the scale is m0 itself, and the way back, which is its own mirror, gives d = 0 */
 
 static void try_meridian(uint8_t code, int64_t b) {
     const struct system_row *system = system_of(code);
@@ -142,6 +144,7 @@ static void try_meridian(uint8_t code, int64_t b) {
     uint8_t returned = misgwalor_forward(code, b, meridian_ticks(system), answer);
     int right = returned == 0 && answer[1] == (int64_t)system->y0 * 1000 && answer[2] == m0 && answer[3] == 0;
     judge(right && lend_kept(ANSWER, 4), FORWARD, returned, "central meridian, B", numbers, 2);
+    mirror_inverse(code, answer[0], answer[1]);
 }
 
 /* ---- the numbers to run of document 01 */
