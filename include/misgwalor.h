@@ -17,7 +17,8 @@
  *
  * Units: angles in ticks, whole millionths of an arc second (one degree is 3600000000); plane in whole millimetres, X north and Y east; scale in units
  * of 10^-9; convergence in thousandths of an arc second, positive east of the central meridian. The scale is the grid's, a length in the plane by that on the
- * ellipsoid: the system's m0 is in it, so on the central meridian it is m0 itself, 999923000 in codes 2 to 5.
+ * ellipsoid: the system's m0 is in it, so on the central meridian it is m0 itself, 999923000 in codes 2 to 5. Y on the central meridian is the system's y0:
+ * 500000000 in codes 1, 6 and 7; 5500000000, 6500000000, 7500000000, 8500000000 in 2 to 5 and in 10 to 13; 3500000000, 4500000000 in 8, 9; 237000000 in 14.
  *
  * A ring is a list of corners, X and Y of each in turn, so `numbers` is twice the count of corners. The last corner is joined to the first, which is not
  * repeated. Edge k runs from corner k to the next; edges and corners are counted from 0.
@@ -58,6 +59,8 @@ extern "C" {
  * Latitude B and longitude L to the plane of a system.
  * answer: X, Y, scale, convergence, each within 0.51 of its unit of the published procedure as document 01 writes it out, with m0 in the scale. So another
  * terminal that keeps to 0.51 too answers the same, or one unit beside where the procedure's value lies within 0.01 of a half.
+ * East and west are alike: for one B, two L equally far from the central meridian get the same return; on 0 X and scale are equal, the two Y lie equally far
+ * from y0 on either side, and the convergences are negatives, to the last unit. On the meridian itself Y is y0 and the convergence 0.
  * Refusals, in this order: 1, 2, 3, 10. On a refusal answer holds what it held.
  */
 uint8_t misgwalor_forward(uint8_t code, int64_t b, int64_t l, int64_t answer[4]);
@@ -65,6 +68,8 @@ uint8_t misgwalor_forward(uint8_t code, int64_t b, int64_t l, int64_t answer[4])
 /*
  * A plane point of a system to latitude and longitude.
  * answer: B, L, each within 0.6 tick of the published procedure as document 01 writes it out.
+ * East and west are alike: for one X, two Y equally far from y0 get the same return; on 0 the B are equal and the two L lie equally far from the central
+ * meridian on either side. y0 itself gives the meridian's L.
  * Refusals, in this order: 1, 4, 10, 2, 3; 2 and 3 are judged on the ticks that would be answered. On a refusal answer holds what it held.
  */
 uint8_t misgwalor_inverse(uint8_t code, int64_t x, int64_t y, int64_t answer[2]);
