@@ -73,7 +73,7 @@ class Pictures(unittest.TestCase):
     def test_every_example_is_drawn(self):
         for output in sorted((ROOT / "examples").glob("*.out")):
             text = output.with_suffix(".txt").read_text(encoding="utf-8")
-            if "field" in text.split():
+            if any(line.startswith("field ") for line in text.splitlines()):
                 self.assertTrue(drawn(output.stem)[0].endswith("</svg>\n"), output.stem)
 
     def test_refusals_before_the_ring_is_closed(self):
