@@ -47,7 +47,7 @@ extern "C" {
 #define MISGWALOR_CORNER_NUMBER 7      /* a corner's number is beyond 10^10 mm in size */
 #define MISGWALOR_SPAN_TOO_LARGE 8     /* the ring spans more than 20000000 mm in X or in Y */
 #define MISGWALOR_RING_CROSSED 9       /* two edges share a point that they may not share */
-#define MISGWALOR_STEP_NOT_FINITE 10   /* a step of the projection is not finite */
+/* 10 is withdrawn: no call returns it, and it is not used again. */
 #define MISGWALOR_OUTPUT_TOO_SHORT 14  /* fewer numbers are lent than the ring has */
 
 /* What misgwalor_nozzle answers. */
@@ -61,7 +61,7 @@ extern "C" {
  * terminal that keeps to 0.51 too answers the same, or one unit beside where the procedure's value lies within 0.01 of a half.
  * East and west are alike: for one B, two L equally far from the central meridian get the same return; on 0 X and scale are equal, the two Y lie equally far
  * from y0 on either side, and the convergences are negatives, to the last unit. On the meridian itself Y is y0 and the convergence 0.
- * Refusals, in this order: 1, 2, 3, 10. On a refusal answer holds what it held.
+ * Refusals, in this order: 1, 2, 3. On a refusal answer holds what it held.
  */
 uint8_t misgwalor_forward(uint8_t code, int64_t b, int64_t l, int64_t answer[4]);
 
@@ -70,7 +70,7 @@ uint8_t misgwalor_forward(uint8_t code, int64_t b, int64_t l, int64_t answer[4])
  * answer: B, L, each within 0.6 tick of the published procedure as document 01 writes it out.
  * East and west are alike: for one X, two Y equally far from y0 get the same return; on 0 the B are equal and the two L lie equally far from the central
  * meridian on either side. y0 itself gives the meridian's L.
- * Refusals, in this order: 1, 4, 10, 2, 3; 2 and 3 are judged on the ticks that would be answered. On a refusal answer holds what it held.
+ * Refusals, in this order: 1, 4, 2, 3; 2 and 3 are judged on the ticks that would be answered. On a refusal answer holds what it held.
  */
 uint8_t misgwalor_inverse(uint8_t code, int64_t x, int64_t y, int64_t answer[2]);
 
@@ -79,7 +79,7 @@ uint8_t misgwalor_inverse(uint8_t code, int64_t x, int64_t y, int64_t answer[2])
  * answer: X, Y: exactly those that misgwalor_forward gives in `to` for the B, L that misgwalor_inverse gives in `from`, so each leg lies in its band: the B,
  * L between within 0.6 tick of the procedure, and X, Y within 0.51 mm of the procedure's for that B, L. With equal codes the point is checked
  * as misgwalor_inverse checks it, and answered as it was given.
- * Refusals, in this order: 1 (from, then to), 5, 4, 10, 2, 3 (from, then to), 10. On a refusal answer holds what it held.
+ * Refusals, in this order: 1 (from, then to), 5, 4, 2, 3 (from, then to). On a refusal answer holds what it held.
  */
 uint8_t misgwalor_plane_to_plane(uint8_t from, uint8_t to, int64_t x, int64_t y, int64_t answer[2]);
 

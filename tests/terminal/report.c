@@ -6,7 +6,7 @@
 
 uint64_t cases, differences;
 
-/* The numbers that each call returns, in the order of document 01, but for 10, which no point is known to give. Those of the projection are met only with it. */
+/* The numbers that each call returns, in the order of documents 01 and 02, and no other; 10 is withdrawn. Those of the projection are met only with it. */
 static const struct {
     const char *name;
     int projection, returns[12];
@@ -19,15 +19,21 @@ static const struct {
     {"misgwalor_turning_number", 0, {0, 6, 7, 8, -1}},
     {"misgwalor_crossing", 0, {0, 6, 7, 8, 9, -1}},
     {"misgwalor_nozzle", 0, {0, 6, 7, 8, 9, -1}},
-    {"the judge itself", 0, {-1}},
+    {"the judge itself", 0, {0, -1}},
 };
 
 static uint64_t met[CALLS][256];
 
+static int listed(enum call call, int returned) {
+    for (const int *number = CALL[call].returns; *number >= 0; number++)
+        if (*number == returned) return 1;
+    return 0;
+}
+
 void judge(int right, enum call call, int returned, const char *what, const int64_t *numbers, size_t count) {
     cases++;
     met[call][returned & 255]++;
-    if (right) return;
+    if (right && listed(call, returned)) return;
     if (differences++ >= 10) return;
     printf("difference: %s returned %d: %s:", CALL[call].name, returned, what);
     for (size_t i = 0; i < count && i < 40; i++) printf(" %" PRId64, numbers[i]);

@@ -14,8 +14,6 @@ ghost use Rattle.rules.specs.Conversion.{held, verdict, Right-conversion};
 ghost use Rattle.rules.specs.Conversion as Corners;
 ghost use Rattle.rings.specs.Corners.{pairs, Accepted};
 ghost use Rattle.projection.specs.Answers.{plane-paper};
-ghost use Rattle.projection.specs.Inverse.{inverse-finite};
-ghost use Rattle.projection.specs.Worked.{forward-finite};
 ghost use Rattle.conversion.specs.Codes.{verdict-paper, code-checks, ellipsoid-check};
 ghost use Rattle.conversion.specs.Ring.{worked-conversion, ring-carried, outcome};
 ghost use Rattle.conversion.specs.Plane.{worked-plane, carried, taken-to};
@@ -77,7 +75,7 @@ fn convert(source: u8, target: u8, x: i64, y: i64) -> PlaneAnswer
 // Refusals 1 (source, then target), 5, then those of the inverse and of the forward. Each leg lies in its band.
 pub fn plane_to_plane(source: u8, target: u8, x: i64, y: i64) -> PlaneAnswer
     ensures worked { λ r. ⌜ plane-paper r ≡ worked-plane source target x y ⌝ }
-    ensures band { λ r. ⌜ Right-plane forward-finite inverse-finite source target x y (plane-paper r) ⌝ }
+    ensures band { λ r. ⌜ Right-plane source target x y (plane-paper r) ⌝ }
 {
     match check_codes(source, target) {
         Verdict::Refused(n) => PlaneAnswer::Refused(n),
@@ -170,7 +168,7 @@ fn move_ring(source: u8, target: u8, corners: &[i64], output: &mut [i64]) -> Ver
 pub fn convert_ring(source: u8, target: u8, corners: &[i64], output: &mut [i64]) -> Verdict
     ensures verdict { λ r. ⌜ verdict-paper r ≡ verdict (worked-conversion source target (now (corners .entry)) (now (output .entry))) ⌝ }
     ensures held { λ r. ⌜ now (output .exit) ≡ held (worked-conversion source target (now (corners .entry)) (now (output .entry))) (now (output .entry)) ⌝ }
-    ensures band { λ r. ⌜ Shows-both (Right-conversion forward-finite inverse-finite source target (now (corners .entry)) (now (output .entry))) verdict (λ a. held a (now (output .entry))) (verdict-paper r) (now (output .exit)) ⌝ }
+    ensures band { λ r. ⌜ Shows-both (Right-conversion source target (now (corners .entry)) (now (output .entry))) verdict (λ a. held a (now (output .entry))) (verdict-paper r) (now (output .exit)) ⌝ }
 {
     match check_codes(source, target) {
         Verdict::Refused(n) => Verdict::Refused(n),

@@ -1,11 +1,11 @@
 -- The complex sum, the complex product and the polynomial in doubles: the worked values of the code. Definitions only.
-use mathlib.Core.Bool.{Bool, false, _&&_}
+use mathlib.Core.Bool.{false}
 use mathlib.Core.List.{List, [], _∷_}
 use lib.IntN.{pos}
 use lib.Ieee.{Float, fin, binary64, add, sub, mul}
 use Rattle.rules.specs.Scaled as scaled
 use Rattle.double.specs.declared.Pair.{Pair}
-use Rattle.double.specs.Value.{finite, value, Number}
+use Rattle.double.specs.Value.{value, Number}
 
 abbrev pub sum : Pair → Pair → Pair
 sum a b = record { re = add binary64 (a .re) (b .re); im = add binary64 (a .im) (b .im) }
@@ -32,10 +32,6 @@ unfoldable pub horner : List Float → Pair → Pair
 horner [] z = real nought
 horner (c ∷ []) z = real c
 horner (c ∷ d ∷ cs) z = step (horner (d ∷ cs) z) z c
-
--- whether both parts are finite
-abbrev pub finite-pair : Pair → Bool
-finite-pair z = finite (z .re) && finite (z .im)
 
 -- both parts are finite numbers
 pub record Numbers (z : Pair) : Type 0 where

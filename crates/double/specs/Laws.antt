@@ -14,6 +14,6 @@ pub mod Moving
 pub mod Floored
 pub mod Defined
 pub mod Systems
-pub mod Never
+pub mod Steps
 pub mod Pattern
 pub mod Whole

@@ -4,4 +4,5 @@ pub mod Complex
 pub mod Pairs
 pub mod Exact
 pub mod Bound
+pub mod Steps
 pub mod Laws

@@ -1,8 +1,7 @@
 // Complex numbers as pairs of doubles, by value, and a polynomial with real coefficients at one. Each contract says what the parts are
 // in doubles; how far these are from the exact polynomial is in specs/Laws.
 ghost use mathlib.Core.Path.{_≡_};
-ghost use Rattle.double.specs.Value.{finite};
-ghost use Rattle.double.specs.Complex.{sum, product, step, horner, finite-pair};
+ghost use Rattle.double.specs.Complex.{sum, product, step, horner};
 
 pub mod series;
 
@@ -54,22 +53,4 @@ pub fn polynomial(c: &[f64], z: Pair) -> Pair
         sum = next(sum, z, c[i]);
     }
     sum
-}
-
-// Whether x is neither a NaN nor an infinity: x - x is 0 for every other number, and a NaN for those.
-pub fn is_finite(x: f64) -> bool
-    ensures { λ r. ⌜ r ≡ finite x ⌝ }
-{
-    x - x == 0.0
-}
-
-// Whether a step's answer is finite in both parts: what is not is refusal 10. `Never` shows that it is for every point in range.
-pub fn is_finite_pair(p: Pair) -> bool
-    ensures { λ r. ⌜ r ≡ finite-pair p ⌝ }
-{
-    if is_finite(p.re) {
-        is_finite(p.im)
-    } else {
-        false
-    }
 }

@@ -1,7 +1,7 @@
 -- The job's state as one of the rules' states, whatever the struct holds; the paper's number and values of each answer; what a record makes of a state, by the
 -- rules; and what it makes of the struct. Assumes nothing.
 use mathlib.Core.Path.{_≡_}
-use mathlib.Core.Bool.{Bool, _||_}
+use mathlib.Core.Bool.{_||_}
 use mathlib.Core.List.{List, [], _++_}
 use Prim.Native.Nat.{ℕ, _+_}
 use lib.IntN.{ℤ, pos}
@@ -121,7 +121,7 @@ pub record Stepping (s : rules.Answer Step) (i : records.Record) (j : Job) (t : 
   pub leaves : t .job ≡ left s i j
 
 -- 02 (v): the same by a forward whose answers are right, so that a point (kind 5) lies in the band by the job's own promise
-pub record Right-stepping (finite : ℕ → ℤ → ℤ → Bool) (i : records.Record) (j : Job) (t : Taken) : Type 0 where
+pub record Right-stepping (i : records.Record) (j : Job) (t : Taken) : Type 0 where
   pub forward-at : ℕ → ℤ → ℤ → rules.Answer points.Point
-  pub forward-right : points.Forward-right finite forward-at
+  pub forward-right : points.Forward-right forward-at
   pub steps : Stepping (stepped forward-at (view j) i) i j t

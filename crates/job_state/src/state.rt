@@ -3,7 +3,7 @@
 ghost use mathlib.Core.Path.{_≡_};
 ghost use Rattle.rules.specs.JobFile.{begun, cornered, closed, pointed};
 ghost use Rattle.rules.specs.RingAnswers.{number-bad};
-ghost use Rattle.projection.specs.Worked.{forward-finite, worked-forward};
+ghost use Rattle.projection.specs.Worked.{worked-forward};
 ghost use Rattle.records.specs.declared.Record.the-variants as record-case;
 ghost use Rattle.job_state.specs.Gathered.{ring-of, counted};
 ghost use Rattle.job_state.specs.States.{Stepping, Right-stepping, new-job, view, stepped, point-said, query-said};
@@ -68,7 +68,7 @@ impl Job {
     // One record: the rules' step; what a point (kind 5) is answered lies in the forward's band.
     pub fn take(self, item: Record) -> Taken
         ensures worked { λ r. ⌜ Stepping (stepped worked-forward (view self) item) item self r ⌝ }
-        ensures band { λ r. ⌜ Right-stepping forward-finite item self r ⌝ }
+        ensures band { λ r. ⌜ Right-stepping item self r ⌝ }
     {
         match item {
             Record::Begin(code) => self.begin(code),

@@ -4,7 +4,7 @@
 ghost use Prim.Native.Nat.{_+_, _*_, _^_, _≤_, _<_};
 ghost use lib.IntN.{natAbs};
 ghost use mathlib.Core.Path.{_≡_};
-ghost use Rattle.double.specs.Value.{Number};
+ghost use Rattle.double.specs.Value.{Number, finite};
 use double::Pair;
 use double::series;
 use libc::STDIN_FILENO;
@@ -108,11 +108,18 @@ fn placed_number(x: f64, power: u64) -> u64
     }
 }
 
+// Whether x is neither a NaN nor an infinity: x - x is 0 for every other number, and a NaN for those.
+fn is_finite(x: f64) -> bool
+    ensures { λ r. ⌜ r ≡ finite x ⌝ }
+{
+    x - x == 0.0
+}
+
 // The same of any x: 0 where it is not finite.
 fn placed(x: f64, power: u64) -> u64
     requires { ⌜ power ≤ 50 ⌝ }
 {
-    if double::is_finite(x) {
+    if is_finite(x) {
         placed_number(x, power)
     } else {
         0

@@ -7,8 +7,8 @@ ghost use Rattle.systems.specs.declared.ZoneAnswer.the-variants.{Known};
 ghost use Rattle.rules.specs.Points.{Right-forward, Right-inverse, Shows, plane-of};
 ghost use Rattle.projection.specs.Answers.{forward-paper, plane-paper};
 ghost use Rattle.projection_inverse.specs.Answers.{inverse-paper};
-ghost use Rattle.projection_worked.specs.Inverse.{inverse-finite, worked-inverse};
-ghost use Rattle.projection_worked.specs.Worked.{forward-finite, worked-forward};
+ghost use Rattle.projection_worked.specs.Inverse.{worked-inverse};
+ghost use Rattle.projection_worked.specs.Worked.{worked-forward};
 
 pub mod onward;
 pub mod steps;
@@ -56,10 +56,10 @@ fn forward_in(code: u8, zone: Zone, b: i64, l: i64) -> ForwardAnswer
     onward::point_at(zone, b, l)
 }
 
-// X, Y, scale and convergence, each within 0.51 of its unit of the definition, or refusal 1, 2, 3 or 10, in that order.
+// X, Y, scale and convergence, each within 0.51 of its unit of the definition, or refusal 1, 2 or 3, in that order.
 pub fn forward(code: u8, b: i64, l: i64) -> ForwardAnswer
     ensures worked { λ r. ⌜ forward-paper r ≡ worked-forward code b l ⌝ }
-    ensures band { λ r. ⌜ Right-forward (forward-finite code b l) code b l (forward-paper r) ⌝ }
+    ensures band { λ r. ⌜ Right-forward code b l (forward-paper r) ⌝ }
 {
     match systems::find_zone(code) {
         ZoneAnswer::Unknown => ForwardAnswer::Refused(1),
@@ -67,10 +67,10 @@ pub fn forward(code: u8, b: i64, l: i64) -> ForwardAnswer
     }
 }
 
-// X and Y alone, for rings and plane to plane: as forward, in its band and with its refusals 1, 2, 3, 10.
+// X and Y alone, for rings and plane to plane: as forward, in its band and with its refusals 1, 2, 3.
 pub fn forward_plane(code: u8, b: i64, l: i64) -> PlaneAnswer
     ensures worked { λ r. ⌜ plane-paper r ≡ plane-of (worked-forward code b l) ⌝ }
-    ensures band { λ r. ⌜ Shows (Right-forward (forward-finite code b l) code b l) plane-of (plane-paper r) ⌝ }
+    ensures band { λ r. ⌜ Shows (Right-forward code b l) plane-of (plane-paper r) ⌝ }
 {
     match systems::find_zone(code) {
         ZoneAnswer::Unknown => PlaneAnswer::Refused(1),
@@ -78,10 +78,10 @@ pub fn forward_plane(code: u8, b: i64, l: i64) -> PlaneAnswer
     }
 }
 
-// B and L of X and Y in millimetres, each within 0.6 tick of the definition, or refusal 1, 4, 10, 2 or 3, in that order.
+// B and L of X and Y in millimetres, each within 0.6 tick of the definition, or refusal 1, 4, 2 or 3, in that order.
 pub fn inverse(code: u8, x: i64, y: i64) -> InverseAnswer
     ensures worked { λ r. ⌜ inverse-paper r ≡ worked-inverse code x y ⌝ }
-    ensures band { λ r. ⌜ Right-inverse (inverse-finite code x y) code x y (inverse-paper r) ⌝ }
+    ensures band { λ r. ⌜ Right-inverse code x y (inverse-paper r) ⌝ }
 {
     match systems::find_zone(code) {
         ZoneAnswer::Known(zone) => backward::in_zone(zone, x, y),

@@ -88,7 +88,7 @@ pub fn locate(zone: Zone, b: i64, l: i64) -> Located
     }
 }
 
-// X and Y of a point that is taken. Refusal 10 stands in its place; no such point comes to it.
+// X and Y of a point that is taken.
 pub fn plane_at(zone: Zone, b: i64, l: i64) -> PlaneAnswer
     requires { ⌜ Taken zone b l ⌝ }
     ensures { λ r. ⌜ ((s : System) → Stands zone s → r ≡ PlaneAnswer.At (worked-X s b (l -ℤ s .L0)) (worked-Y s b (l -ℤ s .L0))) ⌝ }
@@ -96,11 +96,8 @@ pub fn plane_at(zone: Zone, b: i64, l: i64) -> PlaneAnswer
     let at = locate(zone, b, l);
     let m = at.mercator;
     let p = steps::plane_pair(zone.krasovsky, m.north, m.east);
-    if double::is_finite_pair(p) {
-        let corner = corner_of(zone, at.west, p);
-        return PlaneAnswer::At(corner.x, corner.y);
-    }
-    PlaneAnswer::Refused(10)
+    let corner = corner_of(zone, at.west, p);
+    PlaneAnswer::At(corner.x, corner.y)
 }
 
 // Scale in units of 10^-9, with the zone's m0 in it, of the derivative's parts.
@@ -147,7 +144,7 @@ pub fn point_answer(zone: Zone, at: Located, p: Pair, h: Pair) -> ForwardAnswer
     ForwardAnswer::Point(corner.x, corner.y, scale, convergence)
 }
 
-// X, Y, scale and convergence of a point that is taken. Refusal 10 stands in its place; no such point comes to it.
+// X, Y, scale and convergence of a point that is taken.
 pub fn point_at(zone: Zone, b: i64, l: i64) -> ForwardAnswer
     requires { ⌜ Taken zone b l ⌝ }
     ensures { λ r. ⌜ ((s : System) → Stands zone s → r ≡ ForwardAnswer.Point (worked-X s b (l -ℤ s .L0)) (worked-Y s b (l -ℤ s .L0)) (worked-scale s b (l -ℤ s .L0)) (worked-convergence s b (l -ℤ s .L0))) ⌝ }
@@ -156,10 +153,5 @@ pub fn point_at(zone: Zone, b: i64, l: i64) -> ForwardAnswer
     let m = at.mercator;
     let p = steps::plane_pair(zone.krasovsky, m.north, m.east);
     let h = steps::slope_pair(zone.krasovsky, m.north, m.east);
-    if double::is_finite_pair(p) {
-        if double::is_finite_pair(h) {
-            return point_answer(zone, at, p, h);
-        }
-    }
-    ForwardAnswer::Refused(10)
+    point_answer(zone, at, p, h)
 }

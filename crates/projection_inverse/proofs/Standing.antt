@@ -1,16 +1,16 @@
 -- What the inverse works with a row of the code's table is what its worked values say of the paper's row. Assumes nothing.
-use mathlib.Core.Bool.{true, false, not}
+use mathlib.Core.Bool.{true, false}
 use mathlib.Core.Path.{_≡_, sym, ap, ap₂, _∙_, subst₂}
 use lib.IntN.{ℤ, natAbs, _-ℤ_}
-use Rattle.rules.specs.Refusals.{refused, _>>_, _if_, plane-outside, step-not-finite}
+use Rattle.rules.specs.Refusals.{refused, _>>_, _if_, plane-outside}
 use Rattle.rules.specs.Systems.{System}
 use Rattle.rules.specs.Points.{plane-bad, judged}
 use Rattle.double.specs.declared.Pair.{Pair}
 use Rattle.fixed.specs.Laws.Turned.{below-zero}
 use Rattle.systems.specs.Zones.{Stands, Sized, ellipsoid-of}
 use Rattle.systems.specs.declared.Zone.{Zone}
-use Rattle.projection_worked.specs.Worked.{both-finite, millionths-of}
-use Rattle.projection_worked.specs.Inverse.{mercator-pair, worked-pair, worked-ticks, ticks-from, from-plane, in-system, InBox, Boxed}
+use Rattle.projection_worked.specs.Worked.{millionths-of}
+use Rattle.projection_worked.specs.Inverse.{mercator-pair, worked-pair, worked-ticks, ticks-from, in-system, InBox, Boxed}
 use Rattle.projection_worked.specs.Laws.InverseBox.{Millionths, zone-millionths, same-millionths, boxed}
 
 -- Mercator's pair by the row
@@ -28,19 +28,12 @@ module _ (z : Zone) (s : System) (h : Stands z s) (k : Sized z) (X Y : ℤ) wher
   unfolding worked-ticks
   ticks-stand = ap₂ (λ b p. ticks-from s (below-zero (Y -ℤ b)) p) (sym (h .east)) pair-stands
 
-  -- after refusal 4: the step is finite, or it is not
-  pub finite-answer : both-finite (row-pair z X Y) ≡ true → judged s (ticks-from s (below-zero (Y -ℤ z .east)) (row-pair z X Y)) ≡ from-plane s X Y
-  finite-answer e = ap (judged s) ticks-stand ∙ sym (ap (λ b. step-not-finite if not b >> judged s (worked-ticks s X Y)) (ap both-finite (sym pair-stands) ∙ e))
-
-  pub not-finite : both-finite (row-pair z X Y) ≡ false → refused 10 ≡ from-plane s X Y
-  not-finite e = sym (ap (λ b. step-not-finite if not b >> judged s (worked-ticks s X Y)) (ap both-finite (sym pair-stands) ∙ e))
-
   -- refusal 4, and what passes it
   pub outside : plane-bad s X Y ≡ true → refused 4 ≡ in-system s X Y
-  outside e = sym (ap (λ b. plane-outside if b >> from-plane s X Y) e)
+  outside e = sym (ap (λ b. plane-outside if b >> judged s (worked-ticks s X Y)) e)
 
-  pub inside : plane-bad s X Y ≡ false → from-plane s X Y ≡ in-system s X Y
-  inside e = sym (ap (λ b. plane-outside if b >> from-plane s X Y) e)
+  pub inside : plane-bad s X Y ≡ false → judged s (worked-ticks s X Y) ≡ in-system s X Y
+  inside e = sym (ap (λ b. plane-outside if b >> judged s (worked-ticks s X Y)) e)
 
   pub in-box : plane-bad s X Y ≡ false → InBox z X Y
   in-box e = record {

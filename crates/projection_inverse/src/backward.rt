@@ -19,7 +19,7 @@ ghost use Rattle.metres.specs.Millimetres.{truncated};
 ghost use Rattle.fixed_inverse.specs.Worked.{latitude-ticks, difference-ticks};
 ghost use Rattle.projection_inverse.specs.Answers.{inverse-paper};
 ghost use Rattle.projection_worked.specs.Bounds.{Placed};
-ghost use Rattle.projection_worked.specs.Inverse.{Boxed, InBox, undone30, centred30, mercator-pair, ticks-from, from-plane, in-system};
+ghost use Rattle.projection_worked.specs.Inverse.{Boxed, InBox, undone30, centred30, mercator-pair, ticks-from, worked-ticks, in-system};
 
 // How far a number lies from an offset, and whether below it.
 pub struct Distance {
@@ -146,10 +146,10 @@ pub fn answer(zone: Zone, west: bool, p: Pair) -> InverseAnswer
     judge(zone, t.latitude as i64, l)
 }
 
-// A point that passed refusal 4. Refusal 10 stands in its place; no such point comes to it.
+// A point that passed refusal 4.
 pub fn from_plane(zone: Zone, x: i64, y: i64) -> InverseAnswer
     requires { ⌜ InBox zone x y ⌝ }
-    ensures { λ r. ⌜ ((s : System) → Stands zone s → inverse-paper r ≡ from-plane s x y) ⌝ }
+    ensures { λ r. ⌜ ((s : System) → Stands zone s → inverse-paper r ≡ judged s (worked-ticks s x y)) ⌝ }
 {
     let north = distance_from(zone.north, x);
     let east = distance_from(zone.east, y);
@@ -159,10 +159,7 @@ pub fn from_plane(zone: Zone, x: i64, y: i64) -> InverseAnswer
         north.size,
         east.size,
     );
-    if double::is_finite_pair(p) {
-        return answer(zone, east.below, p);
-    }
-    InverseAnswer::Refused(10)
+    answer(zone, east.below, p)
 }
 
 // Refusal 4, and the rest.

@@ -1,9 +1,9 @@
 -- What the arithmetic gives for the inverse: one value for every input. How near it is to the definition is in Laws.Inverse. Definitions only.
-use mathlib.Core.Bool.{Bool, true, not}
+use mathlib.Core.Bool.{Bool}
 use Prim.Native.Nat.{ℕ, _*_, _/_, _^_, _≤_}
 use lib.IntN.{ℤ, pos, natAbs, _+ℤ_, _-ℤ_}
-use Rattle.rules.specs.Refusals.{Answer, answered, refused, crossed-at, _>>=_, _>>_, _if_, plane-outside, step-not-finite}
-use Rattle.rules.specs.Systems.{System, Ellipsoid, GRS-80, Krasovsky, constants, b-coefficients, system}
+use Rattle.rules.specs.Refusals.{Answer, _>>=_, _>>_, _if_, plane-outside}
+use Rattle.rules.specs.Systems.{System, Ellipsoid, GRS-80, Krasovsky, constants, b-coefficients}
 use Rattle.rules.specs.Scaled.{unit}
 use Rattle.rules.specs.Points.{Ticks, offset-X, offset-Y, plane-bad, inverse-checks, judged}
 use Rattle.systems.specs.Zones.{Sized}
@@ -17,7 +17,7 @@ use Rattle.metres.specs.Millimetres.{truncated}
 use Rattle.fixed.specs.Nearness.{turned}
 use Rattle.fixed.specs.Laws.Turned.{below-zero}
 use Rattle.fixed_inverse.specs.Worked.{latitude-ticks, difference-ticks}
-use Rattle.projection_worked.specs.Worked.{both-finite, below-nought, millionths-of}
+use Rattle.projection_worked.specs.Worked.{below-nought, millionths-of}
 
 -- n millimetres after m0 of M millionths is undone, in whole multiples of 2^-30 m, gone down
 unfoldable pub undone30 : ℕ → ℕ → ℕ
@@ -52,26 +52,12 @@ ticks-from s west p = record { B = latitude-from (s .ellipsoid) p; L = s .L0 +�
 unfoldable pub worked-ticks : System → ℤ → ℤ → Ticks
 worked-ticks s X Y = ticks-from s (below-zero (Y -ℤ offset-Y s)) (worked-pair s X Y)
 
--- whether the one step in f64 is finite; it is asked only of a code's own system
-abbrev pub finite-in : Answer System → ℤ → ℤ → Bool
-finite-in (answered s) X Y = both-finite (worked-pair s X Y)
-finite-in (refused n) X Y = true
-finite-in (crossed-at i j) X Y = true
-
-unfoldable pub inverse-finite : ℕ → ℤ → ℤ → Bool
-inverse-finite code X Y = finite-in (system code) X Y
-
 unfoldable pub worked-inverse : ℕ → ℤ → ℤ → Answer Ticks
-worked-inverse code X Y = inverse-checks (inverse-finite code X Y) code X Y >>= λ s. judged s (worked-ticks s X Y)
+worked-inverse code X Y = inverse-checks code X Y >>= λ s. judged s (worked-ticks s X Y)
 
--- ---- the same by what its checks said, for the code's branches
--- after refusal 4
-abbrev pub from-plane : System → ℤ → ℤ → Answer Ticks
-from-plane s X Y = step-not-finite if not (both-finite (worked-pair s X Y)) >> judged s (worked-ticks s X Y)
-
--- after refusal 1
+-- the same after refusal 1, for the code's branches
 abbrev pub in-system : System → ℤ → ℤ → Answer Ticks
-in-system s X Y = plane-outside if plane-bad s X Y >> from-plane s X Y
+in-system s X Y = plane-outside if plane-bad s X Y >> judged s (worked-ticks s X Y)
 
 -- how far the box of refusal 4 reaches to a side, in kilometres
 abbrev pub side-km : ℕ

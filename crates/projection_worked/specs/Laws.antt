@@ -1,5 +1,5 @@
 -- How near the worked values are to the definition's. Right: every answer of the forward and of the inverse is right by the rules.
--- Meridian: on the central meridian the scale is m0. Mirror: east and west of it answers and refusals are alike, there and back.
+-- Steps: no step in f64 fails to be finite. Meridian: on the central meridian the scale is m0. Mirror: east and west of it answers and refusals are alike, there and back.
 -- InverseChecked, Sides, Undoing: laws that the functions' proofs cite.
 -- Examples: the false easting near a half.
 pub mod Examples
@@ -22,6 +22,7 @@ pub mod InverseTicks
 pub mod InverseBox
 pub mod Inverse
 pub mod Point
+pub mod Steps
 pub mod Meridian
 pub mod Right
 pub mod Sides

@@ -1,14 +1,14 @@
 -- What the arithmetic gives forward: the worked value, one for every input. That of the inverse is in Inverse, how near both are to the definition in Laws. Assumes nothing.
-use mathlib.Core.Bool.{Bool, true, false, _&&_}
+use mathlib.Core.Bool.{Bool, false}
 use Prim.Native.Nat.{ℕ, _-_, _/_, _^_}
 use lib.IntN.{ℤ, pos, natAbs, _+ℤ_, _-ℤ_}
 use lib.Ieee.{Float, fin, lt}
-use Rattle.rules.specs.Refusals.{Answer, answered, refused, crossed-at, _>>=_}
-use Rattle.rules.specs.Systems.{System, Ellipsoid, constants, a-coefficients, system}
+use Rattle.rules.specs.Refusals.{Answer, answered, _>>=_}
+use Rattle.rules.specs.Systems.{System, Ellipsoid, constants, a-coefficients}
 use Rattle.rules.specs.Scaled.{unit, derivative}
-use Rattle.rules.specs.Points.{Point, Ticks, offset-X, offset-Y, forward-checks}
+use Rattle.rules.specs.Points.{Point, offset-X, offset-Y, forward-checks}
 use Rattle.double.specs.declared.Pair.{Pair}
-use Rattle.double.specs.Value.{value, finite}
+use Rattle.double.specs.Value.{value}
 use Rattle.double.specs.Complex.{horner}
 use Rattle.double.specs.Exact.{doubles}
 use Rattle.metres.specs.Metres.{arguments-of}
@@ -29,10 +29,6 @@ z-of E n d = arguments-of (north-of E n d) (pos (east-of E n d))
 -- the Gauss-Krüger pair in metres
 unfoldable pub plane-pair : Ellipsoid → ℕ → ℕ → Pair
 plane-pair E n d = horner (doubles unit (a-coefficients (constants E))) (z-of E n d)
-
--- a step's answer is finite in both parts
-abbrev pub both-finite : Pair → Bool
-both-finite p = finite (p .re) && finite (p .im)
 
 -- a part of v units of 2^-1074 m after m0 of M millionths, in whole millimetres
 unfoldable pub scaled-part : ℕ → ℤ → ℤ
@@ -94,12 +90,5 @@ worked-convergence s B d = convergence-from (s .ellipsoid) (natAbs B) d (slope-p
 unfoldable pub worked-point : System → ℤ → ℤ → Point
 worked-point s B d = record { X = worked-X s B d; Y = worked-Y s B d; scale = worked-scale s B d; convergence = worked-convergence s B d }
 
--- whether the steps in f64 are finite
-unfoldable pub steps-finite : System → ℤ → ℤ → Bool
-steps-finite s B d = both-finite (plane-pair (s .ellipsoid) (natAbs B) (natAbs d)) && both-finite (slope-pair (s .ellipsoid) (natAbs B) (natAbs d))
-
-unfoldable pub forward-finite : ℕ → ℤ → ℤ → Bool
-forward-finite code B L = elim (system code) [ answered s ↦ steps-finite s B (L -ℤ s .L0) | refused n ↦ true | crossed-at i j ↦ true ]
-
 unfoldable pub worked-forward : ℕ → ℤ → ℤ → Answer Point
-worked-forward code B L = forward-checks (forward-finite code B L) code B L >>= λ s. answered (worked-point s B (L -ℤ s .L0))
+worked-forward code B L = forward-checks code B L >>= λ s. answered (worked-point s B (L -ℤ s .L0))

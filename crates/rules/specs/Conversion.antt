@@ -1,5 +1,5 @@
 -- 01, conversion of a whole ring: what the call answers, and what the lent output holds after it. Assumes nothing.
-use mathlib.Core.Bool.{Bool, not}
+use mathlib.Core.Bool.{not}
 use mathlib.Core.Path.{_≡_}
 use mathlib.Core.List.{List, [], _∷_, _++_}
 use Prim.Native.Nat.{ℕ}
@@ -41,7 +41,7 @@ unfoldable pub conversion : ℕ → ℕ → List ℤ → List ℤ → Answer (Li
 conversion = conversion-by plane
 
 -- an answer is right: every corner is, taken plane to plane
-pub record Right-conversion (forward-finite inverse-finite : ℕ → ℤ → ℤ → Bool) (source target : ℕ) (numbers output : List ℤ) (r : Answer (List ℤ)) : Type 0 where
+pub record Right-conversion (source target : ℕ) (numbers output : List ℤ) (r : Answer (List ℤ)) : Type 0 where
   pub corner : ℤ → ℤ → Answer Corner
-  pub each : (X Y : ℤ) → Right-plane forward-finite inverse-finite source target X Y (corner X Y)
+  pub each : (X Y : ℤ) → Right-plane source target X Y (corner X Y)
   pub all : r ≡ conversion-by (λ source target. corner) source target numbers output

@@ -1,5 +1,5 @@
 -- 01, The job file: from the bytes of a file to the bytes that the field program prints. Assumes nothing.
-use mathlib.Core.Bool.{Bool, true, false}
+use mathlib.Core.Bool.{true, false}
 use mathlib.Core.Path.{_≡_}
 use mathlib.Core.List.{List, [], _∷_, _++_}
 use Prim.Native.Nat.{ℕ, zero, suc, _+_, _*_, _-_, _/_, _%_, _^_}
@@ -184,5 +184,5 @@ unfoldable pub job : List ℕ → List ℕ
 job = job-by forward
 
 -- what is printed is right: it is the job by a forward whose answers are, so the numbers of each `point` line lie in the band
-abbrev pub Right-job : (ℕ → ℤ → ℤ → Bool) → List ℕ → List ℕ → Type 0
-Right-job forward-finite file printed = (forward-at : ℕ → ℤ → ℤ → Answer Point) × Forward-right forward-finite forward-at × (printed ≡ job-by forward-at file)
+abbrev pub Right-job : List ℕ → List ℕ → Type 0
+Right-job file printed = (forward-at : ℕ → ℤ → ℤ → Answer Point) × Forward-right forward-at × (printed ≡ job-by forward-at file)

@@ -3,7 +3,7 @@
 -- RingChecks: the same of a ring, 6 (odd length), 7 and 9.
 -- Root, Nearest: the square root is the whole-number one; products and quotients are floors; the rounding is the nearest, ties to even, and the only one.
 -- OwnAnswers: what the definition itself answers is right. Legs: plane to plane, ring conversion and job by a forward and an inverse that are right are right.
--- Clauses: what a call owes, from the value that it answers. Terminals: two answers that are right are a unit apart at most.
+-- Listed: every refusal has a number in use, so none is 10. Clauses: what a call owes, from the value that it answers. Terminals: two answers that are right are a unit apart at most.
 -- Meridian: d = 0 gives Y = y0, y0 gives d = 0, and what the scale is there. EastWest: refusals 2, 3 and 4 are the same on either side; the central meridian, of any answer that is right.
 -- Job: no bound on recursion is felt; the job record by record; decimal digits; signed numbers.
 -- Tried: what the definitions compute to.
@@ -15,6 +15,7 @@ pub mod Root
 pub mod Nearest
 pub mod OwnAnswers
 pub mod Legs
+pub mod Listed
 pub mod Clauses
 pub mod Terminals
 pub mod Meridian

@@ -1,7 +1,6 @@
 -- 02, (v) Two terminals, one fence: "Neighbours with different terminals see shared corners a millimetre apart." How far apart two terminals may be that both keep the
 -- rules. Assumes nothing.
 use mathlib.Core.Path.{_≡_}
-use mathlib.Core.Bool.{Bool}
 use Prim.Native.Nat.{ℕ, _*_, _≤_, _<_}
 use lib.IntN.{ℤ, pos, _+ℤ_, _-ℤ_, _*ℤ_, natAbs}
 use Rattle.rules.specs.Refusals.{Answer, answered, refused, crossed-at}
@@ -36,5 +35,4 @@ Alike-by B L (crossed-at i j) a b = (a ≡ crossed-at i j) × (b ≡ crossed-at 
 
 -- of any two answers that the rules allow for one input
 abbrev pub Two-terminals : Type 0
-Two-terminals = (finite : Bool) (code : ℕ) (B L : ℤ) (a b : Answer Point) → Right-forward finite code B L a → Right-forward finite code B L b
-    → Alike-by B L (forward-checks finite code B L) a b
+Two-terminals = (code : ℕ) (B L : ℤ) (a b : Answer Point) → Right-forward code B L a → Right-forward code B L b → Alike-by B L (forward-checks code B L) a b

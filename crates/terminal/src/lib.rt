@@ -14,8 +14,8 @@ ghost use Rattle.rules.specs.Points.{Right-forward, Right-inverse, Right-plane,
 ghost use Rattle.rules.specs.RingAnswers.{area-answer, turning-answer, crossing-answer, nozzle-answer};
 ghost use Rattle.rings.specs.Answers.{refusal-of};
 ghost use Rattle.rings.specs.Corners.{corner};
-ghost use Rattle.projection.specs.Inverse.{inverse-finite, worked-inverse};
-ghost use Rattle.projection.specs.Worked.{forward-finite, worked-forward};
+ghost use Rattle.projection.specs.Inverse.{worked-inverse};
+ghost use Rattle.projection.specs.Worked.{worked-forward};
 ghost use Rattle.conversion.specs.Plane.{worked-plane};
 ghost use Rattle.conversion.specs.Ring.{worked-conversion};
 ghost use Rattle.terminal.specs.Lent.{lent, edges-lent, point-numbers, tick-numbers, plane-numbers, whole-number, nozzle-number};
@@ -25,7 +25,7 @@ ghost use Rattle.terminal.specs.Lent.{lent, edges-lent, point-numbers, t
 pub extern "C" fn misgwalor_forward(code: u8, b: i64, l: i64, answer: &mut [i64; 4]) -> u8
     ensures number { λ r. ⌜ r ≡ refusal-of (worked-forward code b l) ⌝ }
     ensures holds { λ r. ⌜ now (answer .exit) ≡ lent point-numbers (worked-forward code b l) (now (answer .entry)) ⌝ }
-    ensures band { λ r. ⌜ Shows-both (Right-forward (forward-finite code b l) code b l) refusal-of (λ a. lent point-numbers a (now (answer .entry))) r (now (answer .exit)) ⌝ }
+    ensures band { λ r. ⌜ Shows-both (Right-forward code b l) refusal-of (λ a. lent point-numbers a (now (answer .entry))) r (now (answer .exit)) ⌝ }
 {
     match projection::forward(code, b, l) {
         ForwardAnswer::Refused(n) => n,
@@ -41,7 +41,7 @@ pub extern "C" fn misgwalor_forward(code: u8, b: i64, l: i64, answer: &mut [i64;
 pub extern "C" fn misgwalor_inverse(code: u8, x: i64, y: i64, answer: &mut [i64; 2]) -> u8
     ensures number { λ r. ⌜ r ≡ refusal-of (worked-inverse code x y) ⌝ }
     ensures holds { λ r. ⌜ now (answer .exit) ≡ lent tick-numbers (worked-inverse code x y) (now (answer .entry)) ⌝ }
-    ensures band { λ r. ⌜ Shows-both (Right-inverse (inverse-finite code x y) code x y) refusal-of (λ a. lent tick-numbers a (now (answer .entry))) r (now (answer .exit)) ⌝ }
+    ensures band { λ r. ⌜ Shows-both (Right-inverse code x y) refusal-of (λ a. lent tick-numbers a (now (answer .entry))) r (now (answer .exit)) ⌝ }
 {
     match projection::inverse(code, x, y) {
         InverseAnswer::Refused(n) => n,
@@ -63,7 +63,7 @@ pub extern "C" fn misgwalor_plane_to_plane(
 ) -> u8
     ensures number { λ r. ⌜ r ≡ refusal-of (worked-plane source target x y) ⌝ }
     ensures holds { λ r. ⌜ now (answer .exit) ≡ lent plane-numbers (worked-plane source target x y) (now (answer .entry)) ⌝ }
-    ensures band { λ r. ⌜ Shows-both (Right-plane forward-finite inverse-finite source target x y) refusal-of (λ a. lent plane-numbers a (now (answer .entry))) r (now (answer .exit)) ⌝ }
+    ensures band { λ r. ⌜ Shows-both (Right-plane source target x y) refusal-of (λ a. lent plane-numbers a (now (answer .entry))) r (now (answer .exit)) ⌝ }
 {
     match conversion::plane_to_plane(source, target, x, y) {
         PlaneAnswer::Refused(n) => n,
@@ -84,7 +84,7 @@ pub extern "C" fn misgwalor_convert_ring(
 ) -> u8
     ensures number { λ r. ⌜ r ≡ refusal-of (worked-conversion source target (now (corners .entry)) (now (output .entry))) ⌝ }
     ensures holds { λ r. ⌜ now (output .exit) ≡ held (worked-conversion source target (now (corners .entry)) (now (output .entry))) (now (output .entry)) ⌝ }
-    ensures band { λ r. ⌜ Shows-both (Right-conversion forward-finite inverse-finite source target (now (corners .entry)) (now (output .entry))) refusal-of (λ a. held a (now (output .entry))) r (now (output .exit)) ⌝ }
+    ensures band { λ r. ⌜ Shows-both (Right-conversion source target (now (corners .entry)) (now (output .entry))) refusal-of (λ a. held a (now (output .entry))) r (now (output .exit)) ⌝ }
 {
     match conversion::convert_ring(source, target, corners, output) {
         Verdict::Refused(n) => n,

@@ -29,7 +29,7 @@ move-ring-requires c κs = search needs
 returns : tie.Need-returns
 returns c =
     let s = c .before .before .before .before in
-    both-shown (Right-conversion _ _ _ _ _ _) verdict (λ a. held a (s .args .output .now)) (worked-conversion (s .args .source) (s .args .target) (s .args .corners .now) (s .args .output .now))
+    both-shown (Right-conversion _ _ _ _) verdict (λ a. held a (s .args .output .now)) (worked-conversion (s .args .source) (s .args .target) (s .args .corners .now) (s .args .output .now))
     (conversion-right right (s .args .source) (s .args .target) (s .args .corners .now) (s .args .output .now))
     (on-refusal _ (s .args .output .now)
     (ring-codes-refused (s .args .source) (s .args .target) (s .args .corners .now) (s .args .output .now) _ (sym (c .before .before .before .check-codes .ensures) ∙ ap verdict-paper (c .before .n .given .1))))
@@ -40,7 +40,7 @@ same-length c = search needs
 returns-2 : tie.Need-returns-2
 returns-2 c =
     let s = c .before .before .before .before .before .before in
-    both-shown (Right-conversion _ _ _ _ _ _) verdict (λ a. held a (s .args .output .now)) (worked-conversion (s .args .source) (s .args .target) (s .args .corners .now) (s .args .output .now))
+    both-shown (Right-conversion _ _ _ _) verdict (λ a. held a (s .args .output .now)) (worked-conversion (s .args .source) (s .args .target) (s .args .corners .now) (s .args .output .now))
     (conversion-right right (s .args .source) (s .args .target) (s .args .corners .now) (s .args .output .now))
     (on-same (s .args .output .now) _
     (ring-codes-passed (s .args .source) (s .args .target) (s .args .corners .now) (s .args .output .now) (sym (c .before .before .before .before .before .check-codes .ensures) ∙ ap verdict-paper (c .before .before .before .enum-told .given .1)))

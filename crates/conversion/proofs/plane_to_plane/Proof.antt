@@ -30,13 +30,13 @@ convert-requires c κs = search needs
 returns : tie.Need-returns
 returns c =
     let b = c .before .before .before .before in
-    banded (Right-plane _ _ _ _ _ _) (plane-right right (b .args .source) (b .args .target) (b .args .x) (b .args .y))
+    banded (Right-plane _ _ _ _) (plane-right right (b .args .source) (b .args .target) (b .args .x) (b .args .y))
     (sym (codes-refused (b .args .source) (b .args .target) _ (b .args .x) (b .args .y) (sym (c .before .before .before .check-codes .ensures) ∙ ap verdict-paper (c .before .n .given .1))))
 
 returns-2 : tie.Need-returns-2
 returns-2 c =
     let b = c .before .before .before .before in
-    banded (Right-plane _ _ _ _ _ _) (plane-right right (b .args .source) (b .args .target) (b .args .x) (b .args .y))
+    banded (Right-plane _ _ _ _) (plane-right right (b .args .source) (b .args .target) (b .args .x) (b .args .y))
     (c .convert .ensures
     ∙ ap₂ (carried (b .args .source) (b .args .target)) (toZ-ofZ (b .fits .x)) (toZ-ofZ (b .fits .y))
     ∙ sym (codes-passed (b .args .source) (b .args .target) (b .args .x) (b .args .y) (sym (c .before .before .before .check-codes .ensures) ∙ ap verdict-paper (c .before .enum-told .given .1))))

@@ -10,7 +10,7 @@ use lib.Seq.{take-append-seam}
 use Rattle.rules.specs.JobFile.{job-by, Right-job}
 use Rattle.rules.specs.Laws.Legs.{job-right}
 use Rattle.lines.specs.Said.{pasted}
-use Rattle.projection.specs.Worked.{forward-finite, worked-forward}
+use Rattle.projection.specs.Worked.{worked-forward}
 use Rattle.projection.specs.Laws.Right.{right}
 use Rattle.job.specs.declared.run.Run.{Run}
 use Rattle.job_state.specs.Gathered.{chosen}
@@ -52,8 +52,8 @@ all-calls {r} {s} {bytes} {written} {out} {out′} {n} new calls f room h =
 
 -- so it is the job by a forward whose answers are right: every `point` line lies in the band
 pub all-calls-right : {r s : Run} {bytes written out out′ : List ℕ} {n : ℕ} → progress r ≡ start → Calls r bytes written s → Finishing s out n out′
-    → 128 ≤ length out → length bytes < 2 ^ 64 → Right-job forward-finite bytes (written ++ take n out′)
-all-calls-right {bytes = bytes} new calls f room h = subst (Right-job forward-finite bytes) (sym (all-calls new calls f room h)) (job-right right bytes)
+    → 128 ≤ length out → length bytes < 2 ^ 64 → Right-job bytes (written ++ take n out′)
+all-calls-right {bytes = bytes} new calls f room h = subst (Right-job bytes) (sym (all-calls new calls f room h)) (job-right right bytes)
 
 -- what `Run::new` hands back has come nowhere yet
 pub new-starts : progress new-run ≡ start

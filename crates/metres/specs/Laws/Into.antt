@@ -5,27 +5,29 @@ use Prim.Native.Nat.{ℕ, _+_, _*_, _^_, _≤_, _<_}
 use native.Mathlib.Nat.{le-trans, le-of-eq, le-refl, lt-of-lt-of-le, lt-of-le-of-lt, mul-assoc, mul-right-comm, mul-le-mul-left, mul-le-mul-right, mul-lt-mul-of-pos-right, le-of-mul-le-mul-right, eq-zero-or-pos, one-mul}
 use native.Mathlib.Omega.{arith}
 use mathlib.Core.Logic.{⊎-elim}
-use lib.Dec.{lit≤, lit<}
+use lib.Dec.{T, lit≤, lit<}
 use lib.Pow.{pow-pos}
 use lib.IntN.{ℤ, pos, natAbs, _+ℤ_, _-ℤ_, _*ℤ_}
-use lib.Ieee.{mul, ofInt, fits, round}
+use lib.Ieee.{binary64, mul, ofInt, fits, round}
 use Rattle.arith.specs.Laws.Diff.{Z·ℕ, lin}
 use Rattle.arith.specs.Laws.Order.{abs-mul, abs-add, abs-zero-iff}
 use Rattle.arith.specs.Laws.Ring.{ring, Z·ring, by-ring}
 use Rattle.rules.specs.Scaled as scaled
 use Rattle.rules.specs.Scaled.{unit}
 use Rattle.rules.specs.Polynomial.{double-unit}
-use Rattle.double.specs.Value.{limit, magnitude, value, Number}
+use Rattle.double.specs.Value.{limit, finite, magnitude, value, Number}
 use Rattle.double.specs.Complex.{values}
 use Rattle.double.specs.Pairs.{_⊝_, _⊙_}
 use Rattle.double.specs.Exact.{nearest-double}
 use Rattle.double.specs.Bound.{Inside, Apart, reach}
+use Rattle.double.specs.Steps.{All-finite}
 use Rattle.double.specs.Laws.Operations.{double-unit-pos, mul-near, RoundedProduct}
 use Rattle.double.specs.Laws.Nearness.{near-size}
 use Rattle.double.specs.Laws.Modulus.{modulus-parts}
 use Rattle.double.specs.Laws.Promise.{small-inside}
 use Rattle.double.specs.Laws.Whole.{halved}
-use Rattle.metres.specs.Metres.{thirtieth, two-millionths, metres-of, argument-of, arguments-of}
+use Rattle.double.specs.Laws.Steps.{product-finite}
+use Rattle.metres.specs.Metres.{thirtieth, two-millionths, metres-of, argument-of, argument-doubles, arguments-of}
 
 -- ---- the two constants
 thirtieth-number : Number thirtieth
@@ -123,6 +125,11 @@ near-metres n h = ⊎-elim at-zero elsewhere (eq-zero-or-pos (natAbs n))
 
     at-zero : natAbs n ≡ 0 → Number (argument-of n) × (2 ^ 53 * natAbs (value (argument-of n) *ℤ pos 500000 -ℤ value (metres-of n)) ≤ 3 * natAbs (value (metres-of n)))
     at-zero e = subst (λ (i : ℤ). Number (argument-of i) × (2 ^ 53 * natAbs (value (argument-of i) *ℤ pos 500000 -ℤ value (metres-of i)) ≤ 3 * natAbs (value (metres-of i)))) (sym (abs-zero-iff n .0 e)) zero-metres
+
+pub argument-finite : (n : ℤ) → T (finite (argument-of n)) → All-finite (argument-doubles n)
+argument-finite n h =
+    let metres = product-finite (metres-of n) two-millionths h .0 in
+    (product-finite (ofInt binary64 n) thirtieth metres .0, (metres, (h, tt)))
 
 -- ---- z times 500000 · 2 ^ 30 is n, but for 3 parts in 2 ^ 53
 pub argument-number : (n : ℤ) → natAbs n < 2 ^ 53 → Number (argument-of n)

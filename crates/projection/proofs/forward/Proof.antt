@@ -30,13 +30,13 @@ forward-in-requires c κs = subst (Found (c .before .before .before .before .arg
 returns : tie.Need-returns
 returns c =
     let b = c .before .before .before in
-    banded (Right-forward _ _ _ _) (forward-right (b .args .code) (b .args .b) (b .args .l))
+    banded (Right-forward _ _ _) (forward-right (b .args .code) (b .args .b) (b .args .l))
     (sym (no-system (b .args .code) (b .args .b) (b .args .l) 1 (subst (Found (b .args .code)) (c .enum-told .given .1) (c .before .before .find-zone .ensures))))
 
 returns-2 : tie.Need-returns-2
 returns-2 c =
     let b = c .before .before .before .before .before in
-    banded (Right-forward _ _ _ _) (forward-right (b .args .code) (b .args .b) (b .args .l))
+    banded (Right-forward _ _ _) (forward-right (b .args .code) (b .args .b) (b .args .l))
     (c .forward-in .ensures ∙ ap₂ (λ x y. worked-forward (b .args .code) x y) (toZ-ofZ (b .fits .b)) (toZ-ofZ (b .fits .l)))
 
 pub forward-spec : {M : Type 1} → statement M

@@ -6,9 +6,9 @@ use Rattle.rules.specs.Points.{latitude-bad, longitude-bad}
 use Rattle.fixed_bands.specs.Bands.{Latitude}
 use Rattle.projection.specs.Answers.{forward-paper}
 use Rattle.projection_worked.specs.Worked.{worked-X, worked-Y, worked-scale, worked-convergence}
-use Rattle.projection.specs.Laws.Checked.{latitude-refused, longitude-refused, point-numbers}
+use Rattle.projection.specs.Laws.Checked.{latitude-refused, longitude-refused, taken, point-numbers}
 use Rattle.projection.specs.declared.ForwardAnswer.the-variants.{Point}
-use Rattle.projection.proofs.Checking.{taken-of, answered-of}
+use Rattle.projection.proofs.Checking.{taken-of}
 use borrow.Author.Needs.{needs}
 use Rattle.projection.proofs.forward_in.Statement.{statement}
 use Rattle.projection.proofs.forward_in.Tie as tie
@@ -58,7 +58,7 @@ returns-3 c =
     ap forward-paper
     (c .point-at .ensures s (b .pre .2)
     ∙ ap₂ (λ x y. Point (worked-X s x (y -ℤ s .L0)) (worked-Y s x (y -ℤ s .L0)) (worked-scale s x (y -ℤ s .L0)) (worked-convergence s x (y -ℤ s .L0))) (toZ-ofZ (b .fits .b)) (toZ-ofZ (b .fits .l)))
-    ∙ sym (answered-of (b .args .code) (b .args .zone) s (b .args .b) (b .args .l) (b .pre .1) (b .pre .2) (b .pre .3) p q ∙ point-numbers s (b .args .b) (b .args .l -ℤ s .L0))
+    ∙ sym (taken (b .args .code) (b .args .b) (b .args .l) s (b .pre .1) p q ∙ point-numbers s (b .args .b) (b .args .l -ℤ s .L0))
 
 pub forward-in-spec : {M : Type 1} → statement M
 forward-in-spec =

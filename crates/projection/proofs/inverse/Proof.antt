@@ -33,13 +33,13 @@ returns c =
     let k = c .before in
     let a = k .before .before .before .before in
     let r = row k in
-    banded (Right-inverse _ _ _ _) (inverse-right (a .args .code) (a .args .x) (a .args .y))
+    banded (Right-inverse _ _ _) (inverse-right (a .args .code) (a .args .x) (a .args .y))
     (c .in-zone .ensures (r .0) (r .2) ∙ ap₂ (in-system (r .0)) (toZ-ofZ (a .fits .x)) (toZ-ofZ (a .fits .y)) ∙ sym (worked-known (a .args .code) (r .0) (a .args .x) (a .args .y) (r .1)))
 
 returns-2 : tie.Need-returns-2
 returns-2 c =
     let a = c .before .before .before in
-    banded (Right-inverse _ _ _ _) (inverse-right (a .args .code) (a .args .x) (a .args .y))
+    banded (Right-inverse _ _ _) (inverse-right (a .args .code) (a .args .x) (a .args .y))
     (sym (worked-unknown (a .args .code) 1 (a .args .x) (a .args .y) (subst (Found (a .args .code)) (c .enum-told .given .1) (c .before .before .find-zone .ensures))))
 
 pub inverse-spec : {M : Type 1} → statement M

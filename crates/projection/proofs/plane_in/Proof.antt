@@ -6,9 +6,9 @@ use Rattle.rules.specs.Points.{latitude-bad, longitude-bad, plane-of}
 use Rattle.fixed_bands.specs.Bands.{Latitude}
 use Rattle.projection.specs.Answers.{plane-paper}
 use Rattle.projection_worked.specs.Worked.{worked-X, worked-Y, worked-point}
-use Rattle.projection.specs.Laws.Checked.{latitude-refused, longitude-refused, point-plane}
+use Rattle.projection.specs.Laws.Checked.{latitude-refused, longitude-refused, taken, point-plane}
 use Rattle.projection.specs.declared.PlaneAnswer.the-variants.{At}
-use Rattle.projection.proofs.Checking.{taken-of, answered-of}
+use Rattle.projection.proofs.Checking.{taken-of}
 use borrow.Author.Needs.{needs}
 use Rattle.projection.proofs.plane_in.Statement.{statement}
 use Rattle.projection.proofs.plane_in.Tie as tie
@@ -56,7 +56,7 @@ returns-3 c =
     let p = sym (latitude-is (c .before .before .before .before)) ∙ c .before .before .before .if1 .left in
     let q = sym (longitude-is (c .before .before)) ∙ c .before .if2 .left in
     ap plane-paper (c .plane-at .ensures s (b .pre .2) ∙ ap₂ (λ x y. At (worked-X s x (y -ℤ s .L0)) (worked-Y s x (y -ℤ s .L0))) (toZ-ofZ (b .fits .b)) (toZ-ofZ (b .fits .l)))
-    ∙ sym (ap plane-of (answered-of (b .args .code) (b .args .zone) s (b .args .b) (b .args .l) (b .pre .1) (b .pre .2) (b .pre .3) p q) ∙ point-plane s (b .args .b) (b .args .l -ℤ s .L0))
+    ∙ sym (ap plane-of (taken (b .args .code) (b .args .b) (b .args .l) s (b .pre .1) p q) ∙ point-plane s (b .args .b) (b .args .l -ℤ s .L0))
 
 pub plane-in-spec : {M : Type 1} → statement M
 plane-in-spec =

@@ -1,22 +1,21 @@
--- Every step in f64 of a point that is taken is finite: refusal 10 is never given. Assumes nothing.
-use mathlib.Core.Bool.{Bool, true, false, _&&_}
-use mathlib.Core.Path.{_≡_, refl, ap₂, _∙_}
+-- The steps in f64 of a point that is taken forward: finite, and below 8,000,001 m. Assumes nothing.
+use mathlib.Core.Bool.{false}
+use mathlib.Core.Path.{_≡_, refl}
 use Prim.Native.Nat.{ℕ, _≤_}
 use lib.Dec.{leb→le}
-use lib.IntN.{ℤ, pos, negsuc, natAbs, _-ℤ_}
+use lib.IntN.{ℤ, pos, negsuc, natAbs}
 use lib.Signed.{_≤ℤ_}
 use Rattle.rules.specs.Units.{_°_′_″}
-use Rattle.rules.specs.Systems.{System, Ellipsoid, constants, a-coefficients}
-use Rattle.rules.specs.Scaled.{unit, derivative}
+use Rattle.rules.specs.Systems.{Ellipsoid, constants, a-coefficients}
+use Rattle.rules.specs.Scaled.{derivative}
 use Rattle.rules.specs.Points.{latitude-bad}
 use Rattle.rules.specs.Laws.Checks.{latitude-exact}
 use Rattle.double.specs.Bound.{reach}
 use Rattle.double.specs.Laws.Systems.{forward-light, derivative-light}
-use Rattle.double.specs.Laws.Never.{passes}
 use Rattle.fixed_bands.specs.Bands.{Latitude}
 use Rattle.fixed_forward.specs.Mercator.{north-of, east-of}
 use Rattle.fixed_forward.specs.Sizes.{north-size, east-size}
-use Rattle.projection_worked.specs.Worked.{z-of, plane-pair, slope-pair, both-finite, steps-finite}
+use Rattle.projection_worked.specs.Worked.{z-of, plane-pair, slope-pair}
 use Rattle.projection_worked.specs.Laws.Plane.{arguments-inside}
 use Rattle.projection_worked.specs.Bounds.{Tame}
 use Rattle.projection_worked.specs.Laws.Size.{tame}
@@ -37,7 +36,3 @@ module _ (E : Ellipsoid) (n d : ℕ) (l : Latitude n) (g : d ≤ 5 ° 30 ′ 0 �
   pub slope-tame : Tame (slope-pair E n d)
   unfolding slope-pair z-of
   slope-tame = tame (derivative (a-coefficients (constants E))) _ reach (derivative-light E) (arguments-inside (north-of E n d) (pos (east-of E n d)) (north-size E n l false d g) (east-size E n l false d g))
-
-pub finite-taken : (s : System) (B d : ℤ) → Latitude (natAbs B) → natAbs d ≤ 5 ° 30 ′ 0 ″ → steps-finite s B d ≡ true
-unfolding steps-finite
-finite-taken s B d l g = ap₂ _&&_ (passes _ (plane-tame (s .ellipsoid) (natAbs B) (natAbs d) l g .numbers)) (passes _ (slope-tame (s .ellipsoid) (natAbs B) (natAbs d) l g .numbers))

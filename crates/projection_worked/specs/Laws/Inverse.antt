@@ -1,7 +1,6 @@
--- The inverse is right: refused as the rules say, and else ticks within 0.52 of the definition's, judged by refusals 2 and 3. And no point that passes
--- refusals 1 and 4 comes to refusal 10. Assumes nothing.
-use mathlib.Core.Bool.{true, false}
-use mathlib.Core.Path.{_≡_, refl, sym, _∙_, ap, ap₂, subst}
+-- The inverse is right: refused as the rules say, and else ticks within 0.52 of the definition's, judged by refusals 2 and 3. Assumes nothing.
+use mathlib.Core.Bool.{false}
+use mathlib.Core.Path.{_≡_, refl, sym, ap₂, subst}
 use mathlib.Core.List.{[], _∷_}
 use Prim.Native.Nat.{ℕ}
 use lib.IntN.{ℤ, natAbs, _+ℤ_, _-ℤ_}
@@ -16,13 +15,11 @@ use Rattle.rules.specs.Laws.OwnAnswers.{wider}
 use Rattle.rules.specs.Projection as Unrounded
 use Rattle.rules.specs.Points.{offset-X, offset-Y, plane-bad, inverse-checks, judged, Near-inverse, Right-inverse, Right-inverse-by}
 use Rattle.double.specs.declared.Pair.{Pair}
-use Rattle.double.specs.Laws.Never.{passes}
 use Rattle.fixed.specs.Laws.Turned.{below-zero}
 use Rattle.fixed_inverse.specs.Laws.Inverse.{definition, latitude-band, difference-band}
-use Rattle.projection_worked.specs.Worked.{both-finite, millionths-of, below-nought}
-use Rattle.projection_worked.specs.Inverse.{latitude-from, difference-from, worked-pair, worked-ticks, finite-in, inverse-finite, worked-inverse}
+use Rattle.projection_worked.specs.Worked.{millionths-of, below-nought}
+use Rattle.projection_worked.specs.Inverse.{latitude-from, difference-from, worked-pair, worked-ticks, worked-inverse}
 use Rattle.projection_worked.specs.Laws.InverseUndone.{defined-length}
-use Rattle.projection_worked.specs.Laws.InverseRange.{box-placed}
 use Rattle.projection_worked.specs.Laws.InverseBox.{Millionths, system-millionths, north-is, boxed}
 use Rattle.projection_worked.specs.Laws.InverseTicks.{defined-pair, side-of, mercator, turned-both}
 
@@ -66,26 +63,16 @@ module _ (s : System) (m : Millionths s (millionths-of s)) (X Y : ℤ) (p : plan
       less : (a d : ℤ) → a +ℤ d -ℤ a ≡ d
       less a d = ring (a ∷ d ∷ []) λ ρ ea ed. simp (Z·ring, ea, ed) (by-ring _ _ _ refl)
 
-  -- the one step in f64 is finite
-  pub pair-finite : both-finite p-of ≡ true
-  unfolding worked-pair
-  pair-finite = passes (worked-pair s X Y) (box-placed (s .ellipsoid) (boxed s (millionths-of s) m X Y p) .tame .numbers)
-
 -- ---- every point
 module _ (code : ℕ) (X Y : ℤ) where
-  by-checks : (a : Answer System) → inverse-checks (inverse-finite code X Y) code X Y ≡ a → Right-inverse-by X Y a (a >>= λ s. judged s (worked-ticks s X Y))
+  by-checks : (a : Answer System) → inverse-checks code X Y ≡ a → Right-inverse-by X Y a (a >>= λ s. judged s (worked-ticks s X Y))
   by-checks (answered s) e =
-      let h = inverse-passed (inverse-finite code X Y) code s X Y e in
+      let h = inverse-passed code s X Y e in
       (worked-ticks s X Y, refl, ticks-near s (system-millionths code s (h .0)) X Y (h .1))
   by-checks (refused n) e = refl
   by-checks (crossed-at i j) e = refl
 
   -- every answer of the worked inverse is right
-  pub inverse-right : Right-inverse (inverse-finite code X Y) code X Y (worked-inverse code X Y)
+  pub inverse-right : Right-inverse code X Y (worked-inverse code X Y)
   unfolding worked-inverse
-  inverse-right = by-checks (inverse-checks (inverse-finite code X Y) code X Y) refl
-
-  -- and refusal 10 is never given
-  pub always-finite : (s : System) → system code ≡ answered s → plane-bad s X Y ≡ false → inverse-finite code X Y ≡ true
-  unfolding inverse-finite
-  always-finite s e p = ap (λ a. finite-in a X Y) e ∙ pair-finite s (system-millionths code s e) X Y p
+  inverse-right = by-checks (inverse-checks code X Y) refl

@@ -83,10 +83,10 @@ module _ (E : Ellipsoid) {g f : ℕ} (b : Lengths g f) where
   abbrev pair-of : Pair
   pair-of = horner (doubles unit (b-coefficients (constants E))) z-of
 
-  north-small : natAbs (centred30 E g) ≤ limit30
+  pub north-small : natAbs (centred30 E g) ≤ limit30
   north-small = to-limit (centred-small E (b .low) (b .high))
 
-  east-small : f ≤ limit30
+  pub east-small : f ≤ limit30
   east-small = let h = b .side in omega arith
 
   z-inside : Inside z-of reach

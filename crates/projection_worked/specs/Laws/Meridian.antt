@@ -1,7 +1,7 @@
 -- 02 (ii): on the central meridian the scale answered is m0 itself, in every code and on every latitude that is taken: by the worked value and by the definition. Assumes
 -- nothing.
-use mathlib.Core.Bool.{true, false}
-use mathlib.Core.Path.{_≡_, refl, sym, _∙_, ap, subst}
+use mathlib.Core.Bool.{false}
+use mathlib.Core.Path.{_≡_, sym, _∙_, ap, subst}
 use Prim.Native.Nat.{ℕ, _*_, _^_, _≤_}
 use native.Mathlib.Nat.{le-of-eq}
 use native.Mathlib.Omega.{arith}
@@ -20,7 +20,7 @@ use Rattle.meridian.specs.Laws.Scale.{m0-whole, scale-near-m0}
 use Rattle.projection_worked.specs.Worked.{millionths-of, worked-forward}
 use Rattle.projection_worked.specs.Laws.Finite.{latitude-taken}
 use Rattle.projection_worked.specs.Laws.InverseBox.{system-millionths}
-use Rattle.projection_worked.specs.Laws.Point.{forward-right, forward-always-finite}
+use Rattle.projection_worked.specs.Laws.Point.{forward-right}
 
 -- m0 is a whole number of the answer's units, so it is answered as it is
 whole : (s : System) (M : ℕ) → s .m0 ≡ pos (M * 10 ^ 18) → pos (1000 * M) ≡ m0-answered s
@@ -40,8 +40,8 @@ module _ (code : ℕ) (s : System) (B : ℤ) (e : system code ≡ answered s) (h
       none : (n : ℕ) → 0 ≤ n
       none n = omega arith
 
-  taken : forward-checks true code B (s .L0) ≡ answered s
-  taken = forward-passes true code s B (s .L0) e h not-outside refl
+  taken : forward-checks code B (s .L0) ≡ answered s
+  taken = forward-passes code s B (s .L0) e h not-outside
 
   near-m0 : Within 2 (pos (1000 * millionths-of s)) (Unrounded.forward s B (s .L0) .scale)
   near-m0 =
@@ -50,16 +50,14 @@ module _ (code : ℕ) (s : System) (B : ℤ) (e : system code ≡ answered s) (h
       subst (λ x. Within 2 (pos (1000 * millionths-of s)) (Unrounded.forward s x (s .L0) .scale)) (sym (b .0)) (scale-near-m0 s (millionths-of s) (m .is) (m .high) (natAbs B) (b .1))
 
   -- what is right there has m0 for its scale
-  right-there : (r : Answer Point) → Right-forward true code B (s .L0) r → Answered r
+  right-there : (r : Answer Point) → Right-forward code B (s .L0) r → Answered r
   right-there r right = go (subst (λ a. Right-forward-by B (s .L0) a r) taken right)
     where
       go : Right-forward-by B (s .L0) (answered s) r → Answered r
       go a = (a .0, a .1, alone (a .0 .scale) (pos (1000 * millionths-of s)) _ (a .2 .scale) near-m0 tt ∙ whole s (millionths-of s) (system-millionths code s e .is))
 
 pub worked-meridian : Scale-on-the-meridian worked-forward
-worked-meridian code s B e h =
-    let r = worked-forward code B (s .L0) in
-    right-there code s B e h r (subst (λ f. Right-forward f code B (s .L0) r) (forward-always-finite code B (s .L0) s e h (not-outside code s B e h)) (forward-right code B (s .L0)))
+worked-meridian code s B e h = right-there code s B e h (worked-forward code B (s .L0)) (forward-right code B (s .L0))
 
 pub defined-meridian : Scale-on-the-meridian forward
 defined-meridian code s B e h = right-there code s B e h (forward code B (s .L0)) (forward-is-right code B (s .L0))

@@ -1,21 +1,21 @@
 -- 02 (xi), of what the calls answer: two points equally far from the central meridian, one on either side, are refused alike or answered alike, to the last unit; so is the way
 -- back; and on the meridian itself Y is y0, the convergence 0, and y0 gives L0. Assumes nothing.
-use mathlib.Core.Bool.{Bool, true, false, not, _&&_}
-use mathlib.Core.Path.{_≡_, refl, sym, _∙_, ap, ap₂, subst}
+use mathlib.Core.Bool.{Bool, true, false}
+use mathlib.Core.Path.{_≡_, refl, sym, _∙_, ap, subst}
 use Prim.Native.Nat.{ℕ, _≤_}
 use native.Mathlib.Omega.{arith}
 use lib.IntN.{ℤ, pos, negℤ, natAbs, _-ℤ_}
 use Rattle.rules.specs.Units.{_°_′_″}
-use Rattle.rules.specs.Refusals.{Answer, answered, refused, crossed-at, _>>=_, _>>_, _if_, plane-outside, step-not-finite}
+use Rattle.rules.specs.Refusals.{Answer, answered, refused, crossed-at, _>>=_, _>>_, _if_, plane-outside}
 use Rattle.rules.specs.Systems.{System, system}
 use Rattle.rules.specs.Projection as Unrounded
-use Rattle.rules.specs.Points.{Ticks, offset-X, offset-Y, latitude-bad, plane-bad, forward-checks, judged, Near-forward, Near-inverse}
+use Rattle.rules.specs.Points.{Ticks, offset-Y, latitude-bad, plane-bad, forward-checks, judged, Near-forward, Near-inverse}
 use Rattle.rules.specs.EastWest.{Either-side, Alike, Both, East-and-west-alike, Alike-back, Back-alike, On-the-meridian, Back-on-the-meridian}
 use Rattle.rules.specs.Laws.Checks.{forward-passed}
 use Rattle.rules.specs.Laws.Meridian.{none-left}
-use Rattle.rules.specs.Laws.EastWest.{turned-about, same-size, its-own, at-middle, alike-turned, alike-back-turned, longitude-alike, plane-alike, judged-alike, no-side, no-side-back, on-the-meridian, back-on-the-meridian}
-use Rattle.projection_worked.specs.Worked.{both-finite, plane-pair, slope-pair, millionths-of, worked-point, steps-finite, forward-finite, worked-forward}
-use Rattle.projection_worked.specs.Inverse.{mercator-pair, worked-pair, worked-ticks, worked-inverse, in-system}
+use Rattle.rules.specs.Laws.EastWest.{turned-about, its-own, at-middle, alike-turned, alike-back-turned, longitude-alike, plane-alike, judged-alike, no-side, no-side-back, on-the-meridian, back-on-the-meridian}
+use Rattle.projection_worked.specs.Worked.{worked-point, worked-forward}
+use Rattle.projection_worked.specs.Inverse.{worked-pair, worked-ticks, worked-inverse, in-system}
 use Rattle.projection_worked.specs.Laws.InverseBox.{system-millionths}
 use Rattle.projection_worked.specs.Laws.InverseChecked.{worked-known}
 use Rattle.projection_worked.specs.Laws.Inverse.{ticks-near}
@@ -32,13 +32,9 @@ worked-back-on-the-meridian = back-on-the-meridian right
 
 -- ---- forward
 module _ (code : ℕ) (s : System) (B L M : ℤ) (e : system code ≡ answered s) (h : Either-side (s .L0) L M) where
-  same-finite : forward-finite code B L ≡ forward-finite code B M
-  unfolding forward-finite steps-finite
-  same-finite = rw (e, forward-finite) (ap (λ n. both-finite (plane-pair (s .ellipsoid) (natAbs B) n) && both-finite (slope-pair (s .ellipsoid) (natAbs B) n)) (same-size (s .L0) L M h))
-
-  same-checks : forward-checks (forward-finite code B L) code B L ≡ forward-checks (forward-finite code B M) code B M
+  same-checks : forward-checks code B L ≡ forward-checks code B M
   unfolding forward-checks
-  same-checks = rw (e, longitude-alike s L M h, same-finite) refl
+  same-checks = rw (e, longitude-alike s L M h) refl
 
   points-alike : latitude-bad B ≡ false → Alike s (worked-point s B (L -ℤ s .L0)) (worked-point s B (M -ℤ s .L0))
   points-alike b =
@@ -54,10 +50,10 @@ module _ (code : ℕ) (s : System) (B L M : ℤ) (e : system code ≡ answered s
       middle : Alike s (worked-point s B (pos 0)) (worked-point s B (pos 0))
       middle = let n = no-side s B (worked-point s B (pos 0)) near in record { X = refl; Y = its-own (offset-Y s) (worked-point s B (pos 0) .Y) (n .0); scale = refl; convergence = n .1 ∙ sym (ap negℤ (n .1)) }
 
-  by-checks : (a : Answer System) → forward-checks (forward-finite code B L) code B L ≡ a
+  by-checks : (a : Answer System) → forward-checks code B L ≡ a
       → Both (Alike s) (a >>= λ t. answered (worked-point t B (L -ℤ t .L0))) (a >>= λ t. answered (worked-point t B (M -ℤ t .L0)))
   by-checks (answered t) c =
-      let passed = forward-passed (forward-finite code B L) code t B L c in
+      let passed = forward-passed code t B L c in
       let known = passed .0 in
       let same : s ≡ t = cc in
       (worked-point t B (M -ℤ t .L0), refl, subst (λ t. Alike s (worked-point t B (L -ℤ t .L0)) (worked-point t B (M -ℤ t .L0))) same (points-alike (passed .1)))
@@ -68,14 +64,10 @@ pub east-and-west-alike : East-and-west-alike worked-forward
 unfolding worked-forward
 east-and-west-alike code s B L M e h =
     subst (λ a. Both (Alike s) (worked-forward code B L) (a >>= λ t. answered (worked-point t B (M -ℤ t .L0)))) (same-checks code s B L M e h)
-    (by-checks code s B L M e h (forward-checks (forward-finite code B L) code B L) refl)
+    (by-checks code s B L M e h (forward-checks code B L) refl)
 
 -- ---- inverse
 module _ (code : ℕ) (s : System) (X Y Z : ℤ) (e : system code ≡ answered s) (h : Either-side (offset-Y s) Y Z) where
-  same-pair : worked-pair s X Y ≡ worked-pair s X Z
-  unfolding worked-pair
-  same-pair = ap (mercator-pair (s .ellipsoid) (millionths-of s) (natAbs (X -ℤ offset-X s))) (same-size (offset-Y s) Y Z h)
-
   ticks-alike : plane-bad s X Y ≡ false → Alike-back s (worked-ticks s X Y) (worked-ticks s X Z)
   unfolding worked-ticks worked-pair
   ticks-alike p =
@@ -87,18 +79,15 @@ module _ (code : ℕ) (s : System) (X Y Z : ℤ) (e : system code ≡ answered s
           let near = subst (λ b. Near-inverse s (Unrounded.inverse s X (offset-Y s)) (ticks-at s X b)) (none-left (offset-Y s)) (ticks-near s (system-millionths code s e) X (offset-Y s) p) in
           record { B = refl; L = its-own (s .L0) (ticks-at s X (pos 0) .L) (no-side-back s X (ticks-at s X (pos 0)) near) }
 
-  abbrev by-tests : Bool → Bool → ℤ → Answer Ticks
-  by-tests b f y = plane-outside if b >> (step-not-finite if not f >> judged s (worked-ticks s X y))
+  abbrev by-test : Bool → ℤ → Answer Ticks
+  by-test b y = plane-outside if b >> judged s (worked-ticks s X y)
 
-  tested : (b f : Bool) → plane-bad s X Y ≡ b → Both (Alike-back s) (by-tests b f Y) (by-tests b f Z)
-  tested true f p = refl
-  tested false false p = refl
-  tested false true p = judged-alike s (worked-ticks s X Y) (worked-ticks s X Z) (ticks-alike p)
+  tested : (b : Bool) → plane-bad s X Y ≡ b → Both (Alike-back s) (by-test b Y) (by-test b Z)
+  tested true p = refl
+  tested false p = judged-alike s (worked-ticks s X Y) (worked-ticks s X Z) (ticks-alike p)
 
   systems-alike : Both (Alike-back s) (in-system s X Y) (in-system s X Z)
-  systems-alike =
-      subst (Both (Alike-back s) (in-system s X Y)) (ap₂ (λ b p. by-tests b (both-finite p) Z) (plane-alike s X Y Z h) same-pair)
-      (tested (plane-bad s X Y) (both-finite (worked-pair s X Y)) refl)
+  systems-alike = subst (Both (Alike-back s) (in-system s X Y)) (ap (λ b. by-test b Z) (plane-alike s X Y Z h)) (tested (plane-bad s X Y) refl)
 
 pub back-alike : Back-alike worked-inverse
 back-alike code s X Y Z e h =

@@ -1,6 +1,6 @@
 -- The forward is right: refused as the rules say, and else X, Y, scale and convergence within 0.51 of the definition's. Assumes nothing.
-use mathlib.Core.Bool.{true, false}
-use mathlib.Core.Path.{_≡_, refl, sym, _∙_, ap, ap₂, subst}
+use mathlib.Core.Bool.{false}
+use mathlib.Core.Path.{_≡_, refl, sym, ap₂, subst}
 use mathlib.Core.List.{[], _∷_}
 use Prim.Native.Nat.{ℕ, _*_, _^_, _≤_}
 use native.Mathlib.Nat.{le-trans}
@@ -20,10 +20,10 @@ use Rattle.fixed_bands.specs.Bands.{Latitude}
 use Rattle.fixed_forward.specs.Mercator.{sphere-at, mercator-at}
 use Rattle.fixed_units.specs.Scale.{scale-band}
 use Rattle.fixed_units.specs.Convergence.{convergence-band}
-use Rattle.projection_worked.specs.Worked.{slope-pair, below-nought, millionths-of, scale-from, convergence-from, worked-X, worked-Y, worked-scale, worked-convergence, worked-point, steps-finite, forward-finite, worked-forward}
+use Rattle.projection_worked.specs.Worked.{slope-pair, below-nought, millionths-of, scale-from, convergence-from, worked-X, worked-Y, worked-scale, worked-convergence, worked-point, worked-forward}
 use Rattle.projection_worked.specs.Laws.Forward.{X-near, Y-near}
 use Rattle.projection_worked.specs.Laws.Derivative.{first-fixed, slope-fixed, slope-sided, other}
-use Rattle.projection_worked.specs.Laws.Finite.{latitude-taken, finite-taken}
+use Rattle.projection_worked.specs.Laws.Finite.{latitude-taken}
 use Rattle.projection_worked.specs.Laws.InverseBox.{Millionths, system-millionths, system-narrow}
 
 less-offset : (a d : ℤ) → a +ℤ d -ℤ a ≡ d
@@ -79,25 +79,18 @@ module _ (s : System) (m : Millionths s (millionths-of s)) (B L : ℤ) (h : lati
   point-near = subst (λ v. Near-forward s v (worked-point s B d)) (sym same-definition) (record { X = X-right; Y = Y-right; scale = scale-right; convergence = convergence-right })
 
 -- ---- every point
-within-reach : (code : ℕ) (s : System) (L : ℤ) → system code ≡ answered s → longitude-bad s L ≡ false → natAbs (L -ℤ s .L0) ≤ 5 ° 30 ′ 0 ″
+pub within-reach : (code : ℕ) (s : System) (L : ℤ) → system code ≡ answered s → longitude-bad s L ≡ false → natAbs (L -ℤ s .L0) ≤ 5 ° 30 ′ 0 ″
 within-reach code s L e k = le-trans (longitude-exact s L .0 k) (system-narrow code s e)
 
 module _ (code : ℕ) (B L : ℤ) where
-  by-checks : (a : Answer System) → forward-checks (forward-finite code B L) code B L ≡ a → Right-forward-by B L a (a >>= λ s. answered (worked-point s B (L -ℤ s .L0)))
+  by-checks : (a : Answer System) → forward-checks code B L ≡ a → Right-forward-by B L a (a >>= λ s. answered (worked-point s B (L -ℤ s .L0)))
   by-checks (answered s) e =
-      let h = forward-passed (forward-finite code B L) code s B L e in
+      let h = forward-passed code s B L e in
       (worked-point s B (L -ℤ s .L0), refl, point-near s (system-millionths code s (h .0)) B L (h .1) (within-reach code s L (h .0) (h .2)))
   by-checks (refused n) e = refl
   by-checks (crossed-at i j) e = refl
 
   -- every answer of the worked forward is right
-  pub forward-right : Right-forward (forward-finite code B L) code B L (worked-forward code B L)
+  pub forward-right : Right-forward code B L (worked-forward code B L)
   unfolding worked-forward
-  forward-right = by-checks (forward-checks (forward-finite code B L) code B L) refl
-
-  -- and refusal 10 is never given
-  pub forward-always-finite : (s : System) → system code ≡ answered s → latitude-bad B ≡ false → longitude-bad s L ≡ false → forward-finite code B L ≡ true
-  unfolding forward-finite
-  forward-always-finite s e h k =
-      ap (λ a. elim a [ answered s ↦ steps-finite s B (L -ℤ s .L0) | refused n ↦ true | crossed-at i j ↦ true ]) e
-      ∙ finite-taken s B (L -ℤ s .L0) (latitude-taken B h .1) (within-reach code s L e k)
+  forward-right = by-checks (forward-checks code B L) refl

@@ -1,9 +1,9 @@
 -- What the projection owes of its two functions, whole: every answer of the forward and of the inverse is right by the rules. Assumes nothing.
 use Rattle.rules.specs.Points.{Right}
-use Rattle.projection_worked.specs.Worked.{forward-finite, worked-forward}
-use Rattle.projection_worked.specs.Inverse.{inverse-finite, worked-inverse}
+use Rattle.projection_worked.specs.Worked.{worked-forward}
+use Rattle.projection_worked.specs.Inverse.{worked-inverse}
 use Rattle.projection_worked.specs.Laws.Point.{forward-right}
 use Rattle.projection_worked.specs.Laws.Inverse.{inverse-right}
 
-pub right : Right forward-finite inverse-finite worked-forward worked-inverse
+pub right : Right worked-forward worked-inverse
 right = record { forward-right = forward-right; inverse-right = inverse-right }

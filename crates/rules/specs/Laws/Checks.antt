@@ -1,7 +1,7 @@
 -- 01, Refusal numbers and their order: "given exactly when". Each test of Points and RingAnswers fails exactly where the paper's words hold; and the checks, one after
 -- the other, as equations for a proof to rewrite by. Assumes nothing.
 use mathlib.Core.Path.{_≡_, refl, sym, subst}
-use mathlib.Core.Bool.{Bool, true, false, not, _||_}
+use mathlib.Core.Bool.{Bool, true, false, _||_}
 use mathlib.Core.Logic.{_↔_, _⊎_, inl, inr, ⊎-elim}
 use mathlib.Core.List.{List, [], _∷_, map, List·Memᴰ, List·Memᴰ·head, List·Memᴰ·tail, List·Memᴰ·not-nil, List·Memᴰ·cases-cons}
 use Prim.Native.Nat.{ℕ, suc, _*_, _^_, _<_, _≤_}
@@ -13,7 +13,7 @@ use lib.Signed.{ltZ, _≤ℤ_, _<ℤ_, ltZ-yes, ltZ-no, clashℤ, ≤ℤ-refl}
 use Rattle.arith.specs.Laws.Diff.{_⊖_, Z·ℕ, lin}
 use Rattle.arith.specs.Laws.Order.{≤ℤ-trans, <ℤ→≤ℤ}
 use Rattle.rules.specs.Units.{_°_′_″}
-use Rattle.rules.specs.Refusals.{Answer, answered, refused, crossed-at, _>>=_, _>>_, _if_, latitude-outside, longitude-outside, plane-outside, step-not-finite}
+use Rattle.rules.specs.Refusals.{Answer, answered, refused, crossed-at, _>>=_, _>>_, _if_, latitude-outside, longitude-outside, plane-outside}
 use Rattle.rules.specs.Systems.{System, system}
 use Rattle.rules.specs.Scaled.{one}
 use Rattle.rules.specs.Points.{Ticks, above, latitude-bad, longitude-bad, plane-bad, metres-times-m0, offset-X, offset-Y, forward-checks, inverse-checks, judged}
@@ -74,76 +74,66 @@ unfolding number-bad
 number-exact z = above-exact z (10 ^ 10)
 
 -- ---- the checks in their order
-pub forward-1 : (f : Bool) (code n : ℕ) (B L : ℤ) → system code ≡ refused n → forward-checks f code B L ≡ refused n
+pub forward-1 : (code n : ℕ) (B L : ℤ) → system code ≡ refused n → forward-checks code B L ≡ refused n
 unfolding forward-checks
-forward-1 f code n B L e = rw e refl
+forward-1 code n B L e = rw e refl
 
-module _ (f : Bool) (code : ℕ) (s : System) (B L : ℤ) (e : system code ≡ answered s) where
-  pub forward-2 : latitude-bad B ≡ true → forward-checks f code B L ≡ refused 2
+module _ (code : ℕ) (s : System) (B L : ℤ) (e : system code ≡ answered s) where
+  pub forward-2 : latitude-bad B ≡ true → forward-checks code B L ≡ refused 2
   unfolding forward-checks
   forward-2 g = rw (e, g) refl
 
-  pub forward-3 : latitude-bad B ≡ false → longitude-bad s L ≡ true → forward-checks f code B L ≡ refused 3
+  pub forward-3 : latitude-bad B ≡ false → longitude-bad s L ≡ true → forward-checks code B L ≡ refused 3
   unfolding forward-checks
   forward-3 g h = rw (e, g, h) refl
 
-  pub forward-10 : latitude-bad B ≡ false → longitude-bad s L ≡ false → f ≡ false → forward-checks f code B L ≡ refused 10
+  pub forward-passes : latitude-bad B ≡ false → longitude-bad s L ≡ false → forward-checks code B L ≡ answered s
   unfolding forward-checks
-  forward-10 g h i = rw (e, g, h, i) refl
+  forward-passes g h = rw (e, g, h) refl
 
-  pub forward-passes : latitude-bad B ≡ false → longitude-bad s L ≡ false → f ≡ true → forward-checks f code B L ≡ answered s
-  unfolding forward-checks
-  forward-passes g h i = rw (e, g, h, i) refl
-
-pub inverse-1 : (f : Bool) (code n : ℕ) (X Y : ℤ) → system code ≡ refused n → inverse-checks f code X Y ≡ refused n
+pub inverse-1 : (code n : ℕ) (X Y : ℤ) → system code ≡ refused n → inverse-checks code X Y ≡ refused n
 unfolding inverse-checks
-inverse-1 f code n X Y e = rw e refl
+inverse-1 code n X Y e = rw e refl
 
-module _ (f : Bool) (code : ℕ) (s : System) (X Y : ℤ) (e : system code ≡ answered s) where
-  pub inverse-4 : plane-bad s X Y ≡ true → inverse-checks f code X Y ≡ refused 4
+module _ (code : ℕ) (s : System) (X Y : ℤ) (e : system code ≡ answered s) where
+  pub inverse-4 : plane-bad s X Y ≡ true → inverse-checks code X Y ≡ refused 4
   unfolding inverse-checks
   inverse-4 g = rw (e, g) refl
 
-  pub inverse-10 : plane-bad s X Y ≡ false → f ≡ false → inverse-checks f code X Y ≡ refused 10
+  pub inverse-passes : plane-bad s X Y ≡ false → inverse-checks code X Y ≡ answered s
   unfolding inverse-checks
-  inverse-10 g h = rw (e, g, h) refl
-
-  pub inverse-passes : plane-bad s X Y ≡ false → f ≡ true → inverse-checks f code X Y ≡ answered s
-  unfolding inverse-checks
-  inverse-passes g h = rw (e, g, h) refl
+  inverse-passes g = rw (e, g) refl
 
 -- ---- what an answer of the checks says
-passed-3 : (a : Answer System) (f : Bool) (s : System) (B L : ℤ)
-    → (a >>= λ s. latitude-outside if latitude-bad B >> (longitude-outside if longitude-bad s L >> (step-not-finite if not f >> answered s))) ≡ answered s
+passed-3 : (a : Answer System) (s : System) (B L : ℤ)
+    → (a >>= λ s. latitude-outside if latitude-bad B >> (longitude-outside if longitude-bad s L >> answered s)) ≡ answered s
     → (a ≡ answered s) × (latitude-bad B ≡ false) × (longitude-bad s L ≡ false)
-passed-3 (refused n) f s B L e = absurd (let z : _≡_ {A = ℕ} 0 1 = cc in omega arith)
-passed-3 (crossed-at i j) f s B L e = absurd (let z : _≡_ {A = ℕ} 0 1 = cc in omega arith)
-passed-3 (answered r) f s B L e = go (latitude-bad B) refl (longitude-bad r L) refl f e
+passed-3 (refused n) s B L e = absurd (let z : _≡_ {A = ℕ} 0 1 = cc in omega arith)
+passed-3 (crossed-at i j) s B L e = absurd (let z : _≡_ {A = ℕ} 0 1 = cc in omega arith)
+passed-3 (answered r) s B L e = go (latitude-bad B) refl (longitude-bad r L) refl e
   where
-    go : (b : Bool) → latitude-bad B ≡ b → (c : Bool) → longitude-bad r L ≡ c → (f : Bool)
-        → (latitude-outside if b >> (longitude-outside if c >> (step-not-finite if not f >> answered r))) ≡ answered s → (answered r ≡ answered s) × (latitude-bad B ≡ false) × (longitude-bad s L ≡ false)
-    go true g c k f e = absurd (let z : _≡_ {A = ℕ} 0 1 = cc in omega arith)
-    go false g true k f e = absurd (let z : _≡_ {A = ℕ} 0 1 = cc in omega arith)
-    go false g false k false e = absurd (let z : _≡_ {A = ℕ} 0 1 = cc in omega arith)
-    go false g false k true e = let i : r ≡ s = cc in (e, g, subst (λ t. longitude-bad t L ≡ false) i k)
+    go : (b : Bool) → latitude-bad B ≡ b → (c : Bool) → longitude-bad r L ≡ c
+        → (latitude-outside if b >> (longitude-outside if c >> answered r)) ≡ answered s → (answered r ≡ answered s) × (latitude-bad B ≡ false) × (longitude-bad s L ≡ false)
+    go true g c k e = absurd (let z : _≡_ {A = ℕ} 0 1 = cc in omega arith)
+    go false g true k e = absurd (let z : _≡_ {A = ℕ} 0 1 = cc in omega arith)
+    go false g false k e = let i : r ≡ s = cc in (e, g, subst (λ t. longitude-bad t L ≡ false) i k)
 
-pub forward-passed : (f : Bool) (code : ℕ) (s : System) (B L : ℤ) → forward-checks f code B L ≡ answered s → (system code ≡ answered s) × (latitude-bad B ≡ false) × (longitude-bad s L ≡ false)
+pub forward-passed : (code : ℕ) (s : System) (B L : ℤ) → forward-checks code B L ≡ answered s → (system code ≡ answered s) × (latitude-bad B ≡ false) × (longitude-bad s L ≡ false)
 unfolding forward-checks
-forward-passed f code s B L e = passed-3 (system code) f s B L e
+forward-passed code s B L e = passed-3 (system code) s B L e
 
-passed-4 : (a : Answer System) (f : Bool) (s : System) (X Y : ℤ) → (a >>= λ s. plane-outside if plane-bad s X Y >> (step-not-finite if not f >> answered s)) ≡ answered s → (a ≡ answered s) × (plane-bad s X Y ≡ false)
-passed-4 (refused n) f s X Y e = absurd (let z : _≡_ {A = ℕ} 0 1 = cc in omega arith)
-passed-4 (crossed-at i j) f s X Y e = absurd (let z : _≡_ {A = ℕ} 0 1 = cc in omega arith)
-passed-4 (answered r) f s X Y e = go (plane-bad r X Y) refl f e
+passed-4 : (a : Answer System) (s : System) (X Y : ℤ) → (a >>= λ s. plane-outside if plane-bad s X Y >> answered s) ≡ answered s → (a ≡ answered s) × (plane-bad s X Y ≡ false)
+passed-4 (refused n) s X Y e = absurd (let z : _≡_ {A = ℕ} 0 1 = cc in omega arith)
+passed-4 (crossed-at i j) s X Y e = absurd (let z : _≡_ {A = ℕ} 0 1 = cc in omega arith)
+passed-4 (answered r) s X Y e = go (plane-bad r X Y) refl e
   where
-    go : (b : Bool) → plane-bad r X Y ≡ b → (f : Bool) → (plane-outside if b >> (step-not-finite if not f >> answered r)) ≡ answered s → (answered r ≡ answered s) × (plane-bad s X Y ≡ false)
-    go true g f e = absurd (let z : _≡_ {A = ℕ} 0 1 = cc in omega arith)
-    go false g false e = absurd (let z : _≡_ {A = ℕ} 0 1 = cc in omega arith)
-    go false g true e = let i : r ≡ s = cc in (e, subst (λ t. plane-bad t X Y ≡ false) i g)
+    go : (b : Bool) → plane-bad r X Y ≡ b → (plane-outside if b >> answered r) ≡ answered s → (answered r ≡ answered s) × (plane-bad s X Y ≡ false)
+    go true g e = absurd (let z : _≡_ {A = ℕ} 0 1 = cc in omega arith)
+    go false g e = let i : r ≡ s = cc in (e, subst (λ t. plane-bad t X Y ≡ false) i g)
 
-pub inverse-passed : (f : Bool) (code : ℕ) (s : System) (X Y : ℤ) → inverse-checks f code X Y ≡ answered s → (system code ≡ answered s) × (plane-bad s X Y ≡ false)
+pub inverse-passed : (code : ℕ) (s : System) (X Y : ℤ) → inverse-checks code X Y ≡ answered s → (system code ≡ answered s) × (plane-bad s X Y ≡ false)
 unfolding inverse-checks
-inverse-passed f code s X Y e = passed-4 (system code) f s X Y e
+inverse-passed code s X Y e = passed-4 (system code) s X Y e
 
 pub judged-2 : (s : System) (t : Ticks) → latitude-bad (t .B) ≡ true → judged s t ≡ refused 2
 unfolding judged

@@ -87,14 +87,13 @@ as-judged s t u = go (latitude-bad (t .B)) (longitude-bad s (t .L))
     go false true e = absurd (let z : _≡_ {A = ℕ} 0 1 = cc in omega arith)
     go false false e = cc
 
-module _ {forward-finite inverse-finite : ℕ → ℤ → ℤ → Bool} {forward-at : ℕ → ℤ → ℤ → Answer Point} {inverse-at : ℕ → ℤ → ℤ → Answer Ticks}
-    (right : Right forward-finite inverse-finite forward-at inverse-at) where
+module _ {forward-at : ℕ → ℤ → ℤ → Answer Point} {inverse-at : ℕ → ℤ → ℤ → Answer Ticks} (right : Right forward-at inverse-at) where
   pub on-the-meridian : On-the-meridian forward-at
-  on-the-meridian code s B p e f = go (forward-checks (forward-finite code B (s .L0)) code B (s .L0)) refl (right .forward-right code B (s .L0))
+  on-the-meridian code s B p e f = go (forward-checks code B (s .L0)) refl (right .forward-right code B (s .L0))
     where
-      go : (a : Answer System) → forward-checks (forward-finite code B (s .L0)) code B (s .L0) ≡ a → Right-forward-by B (s .L0) a (forward-at code B (s .L0)) → (p .Y ≡ offset-Y s) × (p .convergence ≡ pos 0)
+      go : (a : Answer System) → forward-checks code B (s .L0) ≡ a → Right-forward-by B (s .L0) a (forward-at code B (s .L0)) → (p .Y ≡ offset-Y s) × (p .convergence ≡ pos 0)
       go (answered t) c r =
-          let known = forward-passed (forward-finite code B (s .L0)) code t B (s .L0) c .0 in
+          let known = forward-passed code t B (s .L0) c .0 in
           let system-same : t ≡ s = cc in
           let answer-is = r .1 in
           let point-same : r .0 ≡ p = cc in
@@ -103,11 +102,11 @@ module _ {forward-finite inverse-finite : ℕ → ℤ → ℤ → Bool} {forward
       go (crossed-at i j) c r = absurd (let z : _≡_ {A = ℕ} 0 1 = cc in omega arith)
 
   pub back-on-the-meridian : Back-on-the-meridian inverse-at
-  back-on-the-meridian code s X u e f = go (inverse-checks (inverse-finite code X (offset-Y s)) code X (offset-Y s)) refl (right .inverse-right code X (offset-Y s))
+  back-on-the-meridian code s X u e f = go (inverse-checks code X (offset-Y s)) refl (right .inverse-right code X (offset-Y s))
     where
-      go : (a : Answer System) → inverse-checks (inverse-finite code X (offset-Y s)) code X (offset-Y s) ≡ a → Right-inverse-by X (offset-Y s) a (inverse-at code X (offset-Y s)) → u .L ≡ s .L0
+      go : (a : Answer System) → inverse-checks code X (offset-Y s) ≡ a → Right-inverse-by X (offset-Y s) a (inverse-at code X (offset-Y s)) → u .L ≡ s .L0
       go (answered t) c r =
-          let known = inverse-passed (inverse-finite code X (offset-Y s)) code t X (offset-Y s) c .0 in
+          let known = inverse-passed code t X (offset-Y s) c .0 in
           let system-same : t ≡ s = cc in
           let ticks-same = as-judged t (r .0) u (sym (r .1) ∙ f) in
           no-side-back s X u (subst (λ v. Near-inverse s (Unrounded.inverse s X (offset-Y s)) v) ticks-same (subst (λ t. Near-inverse t (Unrounded.inverse t X (offset-Y s)) (r .0)) system-same (r .2)))

@@ -1,7 +1,6 @@
 -- Two answers that lie within 0.51 unit of one value are a unit apart at most, and one where the value is clear of a half; so are any two points that the rules allow.
 -- Assumes nothing.
 use mathlib.Core.Path.{_≡_}
-use mathlib.Core.Bool.{Bool}
 use mathlib.Core.List.{[], _∷_}
 use Prim.Native.Nat.{ℕ, _*_, _≤_, _<_}
 use native.Mathlib.Omega.{arith}
@@ -54,7 +53,7 @@ one-fence s v p q f g = record {
 }
 
 pub two-terminals : Two-terminals
-two-terminals finite code B L a b = go (forward-checks finite code B L)
+two-terminals code B L a b = go (forward-checks code B L)
   where
     go : (checks : Answer System) → Right-forward-by B L checks a → Right-forward-by B L checks b → Alike-by B L checks a b
     go (answered s) f g = (f .0, g .0, f .1, g .1, one-fence s (Unrounded.forward s B L) (f .0) (g .0) (f .2) (g .2))

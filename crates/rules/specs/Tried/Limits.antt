@@ -1,7 +1,6 @@
 -- 01, "Refusal numbers and their order": the two ends of each code's half-width (3), and the four sides of its box (4), taken, and refused one tick or one millimetre
 -- beyond. Made by reference/tried.py. Assumes nothing.
 use mathlib.Core.Path.{_≡_}
-use mathlib.Core.Bool.{true}
 use Prim.Native.Nat.{ℕ}
 use lib.IntN.{ℤ, pos, negℤ, _+ℤ_, _-ℤ_}
 use Rattle.rules.specs.Units.{_°_′_″}
@@ -22,8 +21,8 @@ pub record Ends (code : ℕ) (west east : ℤ) : Type 0 where
 
 -- "outside 5,300,000 to 6,250,000 m or size of Y above 420,000 m, exact after offset and m0": two opposite corners pass, and nothing beyond a side
 pub record Box (code : ℕ) (south north west east : ℤ) : Type 0 where
-  pub south-west-taken : taken (P.inverse-checks true code south west) ≡ answered 0
-  pub north-east-taken : taken (P.inverse-checks true code north east) ≡ answered 0
+  pub south-west-taken : taken (P.inverse-checks code south west) ≡ answered 0
+  pub north-east-taken : taken (P.inverse-checks code north east) ≡ answered 0
   pub south-beyond : P.inverse code (south -ℤ pos 1) west ≡ refused plane-outside
   pub north-beyond : P.inverse code (north +ℤ pos 1) east ≡ refused plane-outside
   pub west-beyond : P.inverse code south (west -ℤ pos 1) ≡ refused plane-outside

@@ -1,6 +1,5 @@
 -- 01, Numbers to try, "Run:", and 02 (ii), of the definitions themselves, with the refusals' order and the rounding. Assumes nothing.
 use mathlib.Core.Path.{_≡_}
-use mathlib.Core.Bool.{false}
 use mathlib.Core.List.{List, [], _∷_, map}
 use Prim.Native.Nat.{ℕ, _+_, _*_, _-_, _^_}
 use lib.IntN.{ℤ, pos, negℤ}
@@ -50,10 +49,9 @@ pub record Runs : Type 0 where
   pub far-south-refused : N.area-answer (map negℤ (far 10_000_000_001)) ≡ refused 7
   -- "For rings: 6, 7, 8, 9": a ring that is too far and too large
   pub seven-before-eight : N.area-answer (pos 10_000_000_001 ∷ pos 0 ∷ pos 0 ∷ pos 0 ∷ pos 0 ∷ pos 5 ∷ []) ≡ refused 7
-  -- 5: "the two codes have different ellipsoids"; 10: "a step of the projection isn't finite"
+  -- 5: "the two codes have different ellipsoids"
   pub ellipsoids : P.plane 7 8 (pos 0) (pos 0) ≡ refused 5
-  pub not-finite : P.forward-checks false 1 (pos (52 ° 0 ′ 0 ″)) (pos (19 ° 0 ′ 0 ″)) ≡ refused 10
-  -- "Order for forward: 1, 2, 3, 10."
+  -- "Order for forward: 1, 2, 3, 10.", 10 withdrawn
   pub first-1 : P.forward 15 (pos 0) (pos 0) ≡ refused 1
   pub then-2 : P.forward 2 (pos 0) (pos 0) ≡ refused 2
   -- "the 1,025th corner is 6 at once, before 7"

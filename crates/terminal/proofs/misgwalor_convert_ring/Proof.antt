@@ -8,8 +8,6 @@ use Rattle.rules.specs.Conversion.{held, Right-conversion}
 use Rattle.rules.specs.Laws.Clauses.{both-shown}
 use Rattle.rules.specs.Laws.Legs.{conversion-right}
 use Rattle.rings.specs.Answers.{refusal-of}
-use Rattle.projection.specs.Inverse.{inverse-finite}
-use Rattle.projection.specs.Worked.{forward-finite}
 use Rattle.projection.specs.Laws.Right.{right}
 use Rattle.conversion.specs.Codes.{verdict-paper}
 use Rattle.conversion.specs.Ring.{worked-conversion}
@@ -44,13 +42,13 @@ given : (c : tie.After-convert-ring) → refusal-of (verdict-paper (c .convert-r
 given c = ap refusal-of (c .convert-ring .ensures .0) ∙ verdict-number (owed c)
 
 -- and it is right
-owed-right : (c : tie.After-convert-ring) → Right-conversion forward-finite inverse-finite (c .before .before .args .source) (c .before .before .args .target) (c .before .before .args .corners .now) (before c) (owed c)
+owed-right : (c : tie.After-convert-ring) → Right-conversion (c .before .before .args .source) (c .before .before .args .target) (c .before .before .args .corners .now) (before c) (owed c)
 owed-right c = let s = c .before .before in conversion-right right (s .args .source) (s .args .target) (s .args .corners .now) (before c)
 
 returns : tie.Need-returns
 returns c =
     let g = c .before .before .before .before in
-    both-shown (Right-conversion _ _ _ _ _ _) refusal-of (λ a. held a (before g)) (owed g) (owed-right g) (sym (ap (λ v. refusal-of (verdict-paper v)) (c .before .n .given .1)) ∙ given g, g .convert-ring .ensures .1 .0)
+    both-shown (Right-conversion _ _ _ _) refusal-of (λ a. held a (before g)) (owed g) (owed-right g) (sym (ap (λ v. refusal-of (verdict-paper v)) (c .before .n .given .1)) ∙ given g, g .convert-ring .ensures .1 .0)
 
 same-length-2 : tie.Need-same-length-2
 same-length-2 c = search needs
@@ -58,7 +56,7 @@ same-length-2 c = search needs
 returns-2 : tie.Need-returns-2
 returns-2 c =
     let g = c .before .before .before in
-    both-shown (Right-conversion _ _ _ _ _ _) refusal-of (λ a. held a (before g)) (owed g) (owed-right g) (sym (ap (λ v. refusal-of (verdict-paper v)) (c .enum-told .given .1)) ∙ given g, g .convert-ring .ensures .1 .0)
+    both-shown (Right-conversion _ _ _ _) refusal-of (λ a. held a (before g)) (owed g) (owed-right g) (sym (ap (λ v. refusal-of (verdict-paper v)) (c .enum-told .given .1)) ∙ given g, g .convert-ring .ensures .1 .0)
 
 pub misgwalor-convert-ring-spec : {M : Type 1} → statement M
 misgwalor-convert-ring-spec =

@@ -34,14 +34,14 @@ given c = sym (c .forward .ensures .0 ∙ ap₂ (worked-forward (c .before .args
 returns : tie.Need-returns
 returns c =
     let g = c .before .before .before in
-    both-shown (Right-forward _ _ _ _) refusal-of (λ a. lent point-numbers a (g .before .args .answer .now)) (owed g) (right .forward-right (g .before .args .code) (g .before .args .b) (g .before .args .l))
+    both-shown (Right-forward _ _ _) refusal-of (λ a. lent point-numbers a (g .before .args .answer .now)) (owed g) (right .forward-right (g .before .args .code) (g .before .args .b) (g .before .args .l))
     (on-refusal point-numbers (g .before .args .answer .now) _ (given g ∙ ap forward-paper (c .before .n .given .1)))
 
 returns-2 : tie.Need-returns-2
 returns-2 c =
     let g = c .before .before .before .before in
     let k = c .before .known-told2 .given in
-    both-shown (Right-forward _ _ _ _) refusal-of (λ a. lent point-numbers a (g .before .args .answer .now)) (owed g) (right .forward-right (g .before .args .code) (g .before .args .b) (g .before .args .l))
+    both-shown (Right-forward _ _ _) refusal-of (λ a. lent point-numbers a (g .before .args .answer .now)) (owed g) (right .forward-right (g .before .args .code) (g .before .args .b) (g .before .args .l))
     (on-answer point-numbers (g .before .args .answer .now) _ (given g ∙ ap forward-paper (c .before .before .x .given .1)) (four-same (toZ-ofZ (record { sfits = k .0 .1 })) (toZ-ofZ (record { sfits = k .1 .0 .1 })) (toZ-ofZ (record { sfits = k .1 .1 .0 .1 })) (toZ-ofZ (record { sfits = k .1 .1 .1 .0 .1 }))))
 
 pub misgwalor-forward-spec : {M : Type 1} → statement M

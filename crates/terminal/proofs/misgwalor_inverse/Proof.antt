@@ -34,14 +34,14 @@ given c = sym (c .inverse .ensures .0 ∙ ap₂ (worked-inverse (c .before .args
 returns : tie.Need-returns
 returns c =
     let g = c .before .before .before in
-    both-shown (Right-inverse _ _ _ _) refusal-of (λ a. lent tick-numbers a (g .before .args .answer .now)) (owed g) (right .inverse-right (g .before .args .code) (g .before .args .x) (g .before .args .y))
+    both-shown (Right-inverse _ _ _) refusal-of (λ a. lent tick-numbers a (g .before .args .answer .now)) (owed g) (right .inverse-right (g .before .args .code) (g .before .args .x) (g .before .args .y))
     (on-refusal tick-numbers (g .before .args .answer .now) _ (given g ∙ ap inverse-paper (c .before .n .given .1)))
 
 returns-2 : tie.Need-returns-2
 returns-2 c =
     let g = c .before .before .before .before in
     let k = c .before .known-told2 .given in
-    both-shown (Right-inverse _ _ _ _) refusal-of (λ a. lent tick-numbers a (g .before .args .answer .now)) (owed g) (right .inverse-right (g .before .args .code) (g .before .args .x) (g .before .args .y))
+    both-shown (Right-inverse _ _ _) refusal-of (λ a. lent tick-numbers a (g .before .args .answer .now)) (owed g) (right .inverse-right (g .before .args .code) (g .before .args .x) (g .before .args .y))
     (on-answer tick-numbers (g .before .args .answer .now) _ (given g ∙ ap inverse-paper (c .before .before .b .given .1)) (two-same (toZ-ofZ (record { sfits = k .0 .1 })) (toZ-ofZ (record { sfits = k .1 .0 .1 }))))
 
 pub misgwalor-inverse-spec : {M : Type 1} → statement M

@@ -36,14 +36,14 @@ given c = sym (c .plane-to-plane .ensures .0 ∙ ap₂ (worked-plane (c .before 
 returns : tie.Need-returns
 returns c =
     let g = c .before .before .before in
-    both-shown (Right-plane _ _ _ _ _ _) refusal-of (λ a. lent plane-numbers a (g .before .args .answer .now)) (owed g) (plane-right right (g .before .args .source) (g .before .args .target) (g .before .args .x) (g .before .args .y))
+    both-shown (Right-plane _ _ _ _) refusal-of (λ a. lent plane-numbers a (g .before .args .answer .now)) (owed g) (plane-right right (g .before .args .source) (g .before .args .target) (g .before .args .x) (g .before .args .y))
     (on-refusal plane-numbers (g .before .args .answer .now) _ (given g ∙ ap plane-paper (c .before .n .given .1)))
 
 returns-2 : tie.Need-returns-2
 returns-2 c =
     let g = c .before .before .before .before in
     let k = c .before .known-told2 .given in
-    both-shown (Right-plane _ _ _ _ _ _) refusal-of (λ a. lent plane-numbers a (g .before .args .answer .now)) (owed g) (plane-right right (g .before .args .source) (g .before .args .target) (g .before .args .x) (g .before .args .y))
+    both-shown (Right-plane _ _ _ _) refusal-of (λ a. lent plane-numbers a (g .before .args .answer .now)) (owed g) (plane-right right (g .before .args .source) (g .before .args .target) (g .before .args .x) (g .before .args .y))
     (on-answer plane-numbers (g .before .args .answer .now) _ (given g ∙ ap plane-paper (c .before .before .to-x .given .1)) (two-same (toZ-ofZ (record { sfits = k .0 .1 })) (toZ-ofZ (record { sfits = k .1 .0 .1 }))))
 
 pub misgwalor-plane-to-plane-spec : {M : Type 1} → statement M

@@ -12,17 +12,18 @@ use Rattle.projection.specs.Inverse.{worked-inverse}
 use Rattle.projection.specs.Laws.Right.{right}
 use Rattle.conversion.specs.Plane.{worked-plane}
 use Rattle.conversion.specs.Ring.{worked-conversion}
-use Rattle.terminal.specs.Laws.Zero.{zero-answers, forward-answer-numbered, inverse-answer-numbered, plane-numbered, conversion-numbered}
+use Rattle.rules.specs.Laws.Listed.{forward-listed, inverse-listed, plane-listed, conversion-listed}
+use Rattle.terminal.specs.Laws.Zero.{zero-answers}
 
 pub forward-zero : (code : ℕ) (B L : ℤ) → refusal-of (worked-forward code B L) ≡ 0 → (p : Point) × (worked-forward code B L ≡ answered p)
-forward-zero code B L = zero-answers (worked-forward code B L) (forward-answer-numbered right code B L)
+forward-zero code B L = zero-answers (worked-forward code B L) (forward-listed right code B L)
 
 pub inverse-zero : (code : ℕ) (X Y : ℤ) → refusal-of (worked-inverse code X Y) ≡ 0 → (t : Ticks) × (worked-inverse code X Y ≡ answered t)
-inverse-zero code X Y = zero-answers (worked-inverse code X Y) (inverse-answer-numbered right code X Y)
+inverse-zero code X Y = zero-answers (worked-inverse code X Y) (inverse-listed right code X Y)
 
 pub plane-zero : (source target : ℕ) (X Y : ℤ) → refusal-of (worked-plane source target X Y) ≡ 0 → (c : Corner) × (worked-plane source target X Y ≡ answered c)
-plane-zero source target X Y = zero-answers (worked-plane source target X Y) (plane-numbered right source target X Y)
+plane-zero source target X Y = zero-answers (worked-plane source target X Y) (plane-listed right source target X Y)
 
 pub conversion-zero : (source target : ℕ) (numbers output : List ℤ) → refusal-of (worked-conversion source target numbers output) ≡ 0
     → (r : List ℤ) × (worked-conversion source target numbers output ≡ answered r)
-conversion-zero source target numbers output = zero-answers (worked-conversion source target numbers output) (conversion-numbered right source target numbers output)
+conversion-zero source target numbers output = zero-answers (worked-conversion source target numbers output) (conversion-listed right source target numbers output)

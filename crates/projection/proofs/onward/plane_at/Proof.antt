@@ -1,8 +1,6 @@
 -- `projection::onward::plane_at` meets its contract. Assumes nothing.
-use mathlib.Core.Bool.{Bool, true, false, _&&_}
+use mathlib.Core.Bool.{Bool}
 use mathlib.Core.Path.{_≡_, sym, ap, ap₂, _∙_, subst, subst₂}
-use Prim.Native.Nat.{ℕ}
-use native.Mathlib.Omega.{arith}
 use lib.IntN.{ℤ, pos, natAbs, _+ℤ_, _-ℤ_}
 use mir.Syntax.{w64}
 use mir.Val.{toZ, ofZ}
@@ -10,11 +8,10 @@ use mir.Facts.{toZ-ofZ}
 use Rattle.arith.specs.Laws.Machine.{v-in}
 use Rattle.rules.specs.Scaled.{unit}
 use Rattle.rules.specs.Systems.{System, Ellipsoid, constants, a-coefficients}
-use Rattle.double.specs.Value.{value, finite}
+use Rattle.double.specs.Value.{value}
 use Rattle.double.specs.Complex.{horner}
 use Rattle.double.specs.Exact.{doubles}
 use Rattle.double.specs.declared.Pair.{Pair}
-use Rattle.double.specs.Laws.Never.{passes}
 use Rattle.metres.specs.Metres.{arguments-of}
 use Rattle.fixed.specs.Nearness.{turned}
 use Rattle.fixed_forward.specs.Ellipsoids.{which}
@@ -30,7 +27,6 @@ use Rattle.projection.proofs.onward.plane_at.Statement.{statement}
 use Rattle.projection.proofs.onward.plane_at.Tie as tie
 use Rattle.projection.proofs.onward.plane_at.Reads as reads
 use Rattle.projection.proofs.onward.plane_at.Lts as lts
-use Rattle.double.proofs.is_finite_pair.Reads as is-finite-pair-reads
 use Rattle.projection.proofs.onward.locate.Reads as locate-reads
 use Rattle.projection.proofs.onward.corner_of.Reads as corner-of-reads
 use Rattle.projection.proofs.steps.plane_pair.Reads as plane-pair-reads
@@ -69,26 +65,18 @@ locate-requires c κs = search needs
 plane-pair-requires : tie.Need-plane-pair-requires
 plane-pair-requires c κs = search needs
 
-is-finite-pair-requires : tie.Need-is-finite-pair-requires
-is-finite-pair-requires c κs = search needs
-
 corner-of-requires : tie.Need-corner-of-requires
-corner-of-requires c κs = (c .before .before .before .before .before .before .pre .sized, pair-tame (c .before .before))
+corner-of-requires c κs = (c .before .before .before .before .pre .sized, pair-tame c)
 
 returns : tie.Need-returns
 returns c s h =
-    let a = c .before .before .before .before in
+    let a = c .before .before in
     let z = zone a in
-    let l = c .before .before .before .before .before .before .before .before .args .l in
+    let l = a .before .before .before .before .args .l in
     let k = c .before .corner-of in
     ap₂ At (v-in w64 (k .result .x) (k .ensures .1 .0) tt .is ∙ k .ensures .0 .0) (v-in w64 (k .result .y) (k .ensures .1 .1) tt .is ∙ k .ensures .0 .1)
     ∙ answer z (b a) l _ _ _ _ s (pair-is a) (located a .side)
     ∙ ap₂ At (X-stands z s h (b a) l) (Y-stands z s h (b a) l)
-
-returns-2 : tie.Need-returns-2
-returns-2 c s h =
-    let z : _≡_ {A = ℕ} 0 1 = let e : _≡_ {A = Bool} true false = sym (passes (c .before .before .plane-pair .result) (pair-tame (c .before .before) .numbers)) ∙ sym (c .before .is-finite-pair .ensures) ∙ c .if1 .left in cc in
-    absurd (omega arith)
 
 pub plane-at-spec : {M : Type 1} → statement M
 plane-at-spec =
@@ -96,7 +84,5 @@ plane-at-spec =
     (tie.spec
     locate-requires
     plane-pair-requires
-    is-finite-pair-requires
     corner-of-requires
-    returns
-    returns-2)
+    returns)

@@ -1,7 +1,4 @@
-use mathlib.Core.Bool.{Bool, true, false, _&&_}
 use mathlib.Core.Path.{_≡_, sym, ap, ap₂, _∙_, subst, subst₂}
-use Prim.Native.Nat.{ℕ}
-use native.Mathlib.Omega.{arith}
 use lib.IntN.{ℤ, pos, natAbs, _+ℤ_, _-ℤ_}
 use mir.Syntax.{w64}
 use mir.Val.{toZ, ofZ}
@@ -10,11 +7,10 @@ use Rattle.arith.specs.Laws.Machine.{v-in}
 use Rattle.rules.specs.Scaled.{unit, derivative}
 use Rattle.rules.specs.Units.{_°_′_″}
 use Rattle.rules.specs.Systems.{System, Ellipsoid, constants, a-coefficients}
-use Rattle.double.specs.Value.{value, finite}
+use Rattle.double.specs.Value.{value}
 use Rattle.double.specs.Complex.{horner, Numbers}
 use Rattle.double.specs.Exact.{doubles}
 use Rattle.double.specs.declared.Pair.{Pair}
-use Rattle.double.specs.Laws.Never.{passes}
 use Rattle.metres.specs.Metres.{arguments-of}
 use Rattle.fixed.specs.Nearness.{turned}
 use Rattle.fixed.specs.Laws.Turned.{below-zero}
@@ -35,7 +31,6 @@ use Rattle.projection.proofs.onward.point_at.Statement.{statement}
 use Rattle.projection.proofs.onward.point_at.Tie as tie
 use Rattle.projection.proofs.onward.point_at.Reads as reads
 use Rattle.projection.proofs.onward.point_at.Lts as lts
-use Rattle.double.proofs.is_finite_pair.Reads as is-finite-pair-reads
 use Rattle.projection.proofs.onward.locate.Reads as locate-reads
 use Rattle.projection.proofs.onward.point_answer.Reads as point-answer-reads
 use Rattle.projection.proofs.steps.plane_pair.Reads as plane-pair-reads
@@ -90,21 +85,12 @@ plane-pair-requires c κs = search needs
 slope-pair-requires : tie.Need-slope-pair-requires
 slope-pair-requires c κs = search needs
 
-is-finite-pair-requires : tie.Need-is-finite-pair-requires
-is-finite-pair-requires c κs = search needs
-
-is-finite-pair-requires-2 : tie.Need-is-finite-pair-requires-2
-is-finite-pair-requires-2 c κs = search needs
-
 point-answer-requires : tie.Need-point-answer-requires
-point-answer-requires c κs =
-    let a = c .before .before .before .before in
-    let m = located a in
-    (start a .pre .sized, pair-tame a, slope-numbers a, slope-sloped a, m .sphere-sizes, m .across-small)
+point-answer-requires c κs = let m = located c in (start c .pre .sized, pair-tame c, slope-numbers c, slope-sloped c, m .sphere-sizes, m .across-small)
 
 returns : tie.Need-returns
 returns c s h =
-    let a = c .before .before .before .before .before in
+    let a = c .before in
     let z = zone a in
     let l = start a .args .l in
     c .point-answer .ensures (natAbs (b a)) (d a) (located a)
@@ -114,18 +100,6 @@ returns c s h =
     (ap (scale-from (which (z .krasovsky)) (natAbs (z .millionths)) (natAbs (b a)) (natAbs (d a))) (slope-is a) ∙ scale-stands z s h (b a) l)
     (ap (convergence-from (which (z .krasovsky)) (natAbs (b a)) (d a)) (slope-is a) ∙ convergence-stands z s h (b a) l)
 
-returns-2 : tie.Need-returns-2
-returns-2 c s h =
-    let a = c .before .before .before .before in
-    let z : _≡_ {A = ℕ} 0 1 = let e : _≡_ {A = Bool} true false = sym (passes (a .slope-pair .result) (slope-numbers a)) ∙ sym (c .before .is-finite-pair2 .ensures) ∙ c .if2 .left in cc in
-    absurd (omega arith)
-
-returns-3 : tie.Need-returns-3
-returns-3 c s h =
-    let a = c .before .before in
-    let z : _≡_ {A = ℕ} 0 1 = let e : _≡_ {A = Bool} true false = sym (passes (a .before .before .plane-pair .result) (pair-tame a .numbers)) ∙ sym (c .before .is-finite-pair .ensures) ∙ c .if1 .left in cc in
-    absurd (omega arith)
-
 pub point-at-spec : {M : Type 1} → statement M
 point-at-spec =
     tie.close
@@ -133,9 +107,5 @@ point-at-spec =
     locate-requires
     plane-pair-requires
     slope-pair-requires
-    is-finite-pair-requires
-    is-finite-pair-requires-2
     point-answer-requires
-    returns
-    returns-2
-    returns-3)
+    returns)

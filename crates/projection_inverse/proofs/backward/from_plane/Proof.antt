@@ -14,13 +14,11 @@ use Rattle.rules.specs.Points.{judged}
 use Rattle.fixed.specs.Laws.Turned.{below-zero}
 use Rattle.systems.specs.Zones.{ellipsoid-of}
 use Rattle.systems.specs.declared.Zone.{Zone}
-use Rattle.projection_worked.specs.Worked.{both-finite}
 use Rattle.projection_worked.specs.Inverse.{Boxed, mercator-pair, ticks-from}
 use Rattle.projection_worked.specs.Bounds.{Placed}
 use Rattle.projection_worked.specs.Laws.InverseRange.{box-placed}
 use Rattle.projection_worked.specs.Laws.Sides.{nonneg}
-use Rattle.projection_inverse.proofs.Standing.{row-pair, finite-answer, not-finite}
-use borrow.Author.Needs.{needs}
+use Rattle.projection_inverse.proofs.Standing.{row-pair, ticks-stand}
 use Rattle.projection_inverse.proofs.backward.from_plane.Statement.{statement}
 use Rattle.projection_inverse.proofs.backward.from_plane.Tie as tie
 
@@ -78,9 +76,6 @@ mercator-pair-requires c κs =
     subst (λ M. Boxed M (e .before .before .distance-from .result .size) (e .distance-from2 .result .size)) (sym (ap natAbs (millionths-is (start e))))
     (subst₂ (λ n m. Boxed (natAbs (z (start e) .millionths)) n m) (sym (north-size e)) (sym (east-size e)) (start e .pre .boxed))
 
-is-finite-pair-requires : tie.Need-is-finite-pair-requires
-is-finite-pair-requires c κs = search needs
-
 module _ (c : tie.After-mercator-pair) where
   abbrev first : tie.Start
   first = start (c .before .before .before)
@@ -95,23 +90,15 @@ module _ (c : tie.After-mercator-pair) where
   pair-placed = subst Placed (sym pair-is) (box-placed (ellipsoid-of (z first .krasovsky)) (first .pre .boxed))
 
 answer-requires : tie.Need-answer-requires
-answer-requires c κs = let k = c .before .before in (first k .pre .sized, pair-placed k)
+answer-requires c κs = (first c .pre .sized, pair-placed c)
 
 returns : tie.Need-returns
 returns c = λ s h.
-    let b = c .before .before in
-    let k = b .before in
+    let k = c .before in
     let f = first k in
     c .answer .ensures s h
     ∙ ap₂ (λ w p. judged s (ticks-from s w p)) (east-side (k .before .before .before)) (pair-is k)
-    ∙ finite-answer (z f) s h (f .pre .sized) (f .args .x) (f .args .y) (ap both-finite (sym (pair-is k)) ∙ sym (b .is-finite-pair .ensures) ∙ c .before .if1 .taken)
-
-returns-2 : tie.Need-returns-2
-returns-2 c = λ s h.
-    let b = c .before in
-    let k = b .before in
-    let f = first k in
-    not-finite (z f) s h (f .pre .sized) (f .args .x) (f .args .y) (ap both-finite (sym (pair-is k)) ∙ sym (b .is-finite-pair .ensures) ∙ c .if1 .left)
+    ∙ ap (judged s) (ticks-stand (z f) s h (f .pre .sized) (f .args .x) (f .args .y))
 
 pub from-plane-spec : {M : Type 1} → statement M
 from-plane-spec =
@@ -121,7 +108,5 @@ from-plane-spec =
     distance-from-requires-2
     cast-mercator-pair
     mercator-pair-requires
-    is-finite-pair-requires
     answer-requires
-    returns
-    returns-2)
+    returns)

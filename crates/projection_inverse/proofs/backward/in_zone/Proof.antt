@@ -2,9 +2,9 @@
 use mathlib.Core.Path.{_≡_, sym, ap₂, _∙_, subst₂}
 use mir.Facts.{toZ-ofZ}
 use Rattle.rules.specs.Systems.{System}
-use Rattle.rules.specs.Points.{plane-bad}
+use Rattle.rules.specs.Points.{plane-bad, judged}
 use Rattle.systems.specs.Zones.{Stands}
-use Rattle.projection_worked.specs.Inverse.{InBox, from-plane}
+use Rattle.projection_worked.specs.Inverse.{InBox, worked-ticks}
 use Rattle.projection_inverse.proofs.Standing.{outside, inside, in-box}
 use borrow.Author.Needs.{needs}
 use Rattle.projection_inverse.proofs.backward.in_zone.Statement.{statement}
@@ -30,7 +30,7 @@ returns-2 : tie.Need-returns-2
 returns-2 c = λ s h.
     let e = c .before in
     let a = e .before .before in
-    c .from-plane .ensures s h ∙ ap₂ (from-plane s) (toZ-ofZ (a .fits .x)) (toZ-ofZ (a .fits .y)) ∙ inside (a .args .zone) s h (a .pre .0) (a .args .x) (a .args .y) (sym (said (e .before) s h) ∙ e .if1 .left)
+    c .from-plane .ensures s h ∙ ap₂ (λ x y. judged s (worked-ticks s x y)) (toZ-ofZ (a .fits .x)) (toZ-ofZ (a .fits .y)) ∙ inside (a .args .zone) s h (a .pre .0) (a .args .x) (a .args .y) (sym (said (e .before) s h) ∙ e .if1 .left)
 
 pub in-zone-spec : {M : Type 1} → statement M
 in-zone-spec = tie.close (tie.spec plane-refused-requires returns from-plane-requires returns-2)

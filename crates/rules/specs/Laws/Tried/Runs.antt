@@ -26,7 +26,6 @@ runs = record {
   far-south-refused = refl;
   seven-before-eight = refl;
   ellipsoids = refl;
-  not-finite = refl;
   first-1 = refl;
   then-2 = refl;
   corner-1025 = refl;

@@ -1,5 +1,5 @@
 -- `job_state::state::Job::take` meets its contract. Assumes nothing.
-use Rattle.projection.specs.Worked.{forward-finite, worked-forward}
+use Rattle.projection.specs.Worked.{worked-forward}
 use Rattle.projection.specs.Laws.Right.{right}
 use Rattle.records.specs.declared.Record.{Record}
 use Rattle.records.specs.declared.Record.the-variants.{Corner, Query, Point}
@@ -42,7 +42,7 @@ point-requires : tie.Need-point-requires
 point-requires c κs = search needs
 
 -- the worked forward is one that is right
-by-right-forward : {i : Record} {j : Job} {t : Taken} → Stepping (stepped worked-forward (view j) i) i j t → Stepping (stepped worked-forward (view j) i) i j t × Right-stepping forward-finite i j t
+by-right-forward : {i : Record} {j : Job} {t : Taken} → Stepping (stepped worked-forward (view j) i) i j t → Stepping (stepped worked-forward (view j) i) i j t × Right-stepping i j t
 by-right-forward h = (h, record { forward-at = worked-forward; forward-right = right .forward-right; steps = h })
 
 returns : tie.Need-returns
