@@ -13,6 +13,7 @@ pub mod Finite
 pub mod Slope
 pub mod SlopeParts
 pub mod Derivative
+pub mod InverseLengths
 pub mod InverseUndone
 pub mod InversePlane
 pub mod InverseLine

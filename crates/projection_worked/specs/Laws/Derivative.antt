@@ -27,7 +27,7 @@ use Rattle.double.specs.Laws.Operations.{double-unit-pos}
 use Rattle.double.specs.Laws.Signs.{horner-mirrored}
 use Rattle.double.specs.Laws.Systems.{derivative-light, derivative-defined}
 use Rattle.metres.specs.Metres.{argument-of, arguments-of}
-use Rattle.metres.specs.Laws.Into.{per-one, argument-small}
+use Rattle.metres.specs.Laws.Into.{per-one, argument-small, arguments-inside}
 use Rattle.fixed.specs.Worked.{S60}
 use Rattle.fixed.specs.Nearness.{NearAt, Near60, Fixed, turned}
 use Rattle.fixed.specs.Laws.Turned.{below-zero, turned-within, turned-twice}
@@ -37,7 +37,7 @@ use Rattle.fixed_forward.specs.Sizes.{north-size, east-size, east-narrow}
 use Rattle.projection_worked.specs.Worked.{z-of, slope-pair, first60, slope60, below-nought}
 use Rattle.projection_worked.specs.Bounds.{limit30, Tame, Sloped}
 use Rattle.projection_worked.specs.Laws.Argument.{argument-close}
-use Rattle.projection_worked.specs.Laws.Plane.{arguments-inside, derivative-first, derivative-second}
+use Rattle.projection_worked.specs.Laws.Plane.{derivative-first, derivative-second}
 use Rattle.projection_worked.specs.Laws.West.{keeps-value, flips-value, mirrored}
 use Rattle.projection_worked.specs.Laws.Size.{tame}
 use Rattle.projection_worked.specs.Laws.Slope.{sloped}

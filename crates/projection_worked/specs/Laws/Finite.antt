@@ -12,11 +12,11 @@ use Rattle.rules.specs.Points.{latitude-bad}
 use Rattle.rules.specs.Laws.Checks.{latitude-exact}
 use Rattle.double.specs.Bound.{reach}
 use Rattle.double.specs.Laws.Systems.{forward-light, derivative-light}
+use Rattle.metres.specs.Laws.Into.{arguments-inside}
 use Rattle.fixed_bands.specs.Bands.{Latitude}
 use Rattle.fixed_forward.specs.Mercator.{north-of, east-of}
 use Rattle.fixed_forward.specs.Sizes.{north-size, east-size}
 use Rattle.projection_worked.specs.Worked.{z-of, plane-pair, slope-pair}
-use Rattle.projection_worked.specs.Laws.Plane.{arguments-inside}
 use Rattle.projection_worked.specs.Bounds.{Tame}
 use Rattle.projection_worked.specs.Laws.Size.{tame}
 

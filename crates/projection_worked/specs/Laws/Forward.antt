@@ -24,6 +24,7 @@ use Rattle.double.specs.Laws.Systems.{forward-light}
 use Rattle.metres.specs.Metres.{arguments-of}
 use Rattle.metres.specs.Millimetres.{in-millimetres}
 use Rattle.metres.specs.Laws.Answer.{millimetres-turn}
+use Rattle.metres.specs.Laws.Into.{arguments-inside}
 use Rattle.fixed.specs.Nearness.{NearAt, turned}
 use Rattle.fixed.specs.Laws.Turned.{below-zero, turned-within}
 use Rattle.fixed_bands.specs.Bands.{Latitude}
@@ -31,7 +32,7 @@ use Rattle.fixed_forward.specs.Mercator.{north-of, east-of, mercator-at, Mercat
 use Rattle.fixed_forward.specs.Sizes.{north-size, east-size}
 use Rattle.projection_worked.specs.Worked.{z-of, plane-pair, scaled-part}
 use Rattle.projection_worked.specs.Bounds.{limit30, Tame}
-use Rattle.projection_worked.specs.Laws.Plane.{arguments-inside, forward-first, forward-second}
+use Rattle.projection_worked.specs.Laws.Plane.{forward-first, forward-second}
 use Rattle.projection_worked.specs.Laws.West.{keeps-value, flips-value, mirrored}
 use Rattle.projection_worked.specs.Laws.Size.{tame}
 use Rattle.projection_worked.specs.Laws.Millimetres.{band, scale-of, defined-millimetres}

@@ -23,10 +23,9 @@ use Rattle.double.specs.Bound.{Inside, Apart, Defined, reach, reach-24}
 use Rattle.double.specs.Laws.Operations.{double-unit-pos}
 use Rattle.double.specs.Laws.Systems.{small-reach, inverse-defined}
 use Rattle.metres.specs.Metres.{arguments-of}
-use Rattle.metres.specs.Laws.Into.{per-one}
+use Rattle.metres.specs.Laws.Into.{per-one, arguments-inside}
 use Rattle.fixed.specs.Nearness.{NearAt}
 use Rattle.projection_worked.specs.Laws.Argument.{argument-close, z-close, apart}
-use Rattle.projection_worked.specs.Laws.Plane.{arguments-inside}
 use Rattle.projection_worked.specs.Laws.InverseUndone.{to-limit}
 
 -- a number near one of at most k over a denominator d is itself hardly more

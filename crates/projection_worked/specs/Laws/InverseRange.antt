@@ -3,7 +3,6 @@ use mathlib.Core.Path.{_≡_, refl, sym, ap, subst}
 use mathlib.Core.List.{List, [], _∷_}
 use Prim.Native.Nat.{ℕ, suc, _+_, _*_, _^_, _≤_}
 use native.Mathlib.Nat.{le-trans, le-of-eq, mul-le-mul-left, le-add-left}
-use native.Mathlib.Omega.{arith}
 use lib.Dec.{lit<, lit≤}
 use lib.ListN.{length}
 use lib.IntN.{ℤ, pos, natAbs, _+ℤ_, _-ℤ_, _*ℤ_}
@@ -22,11 +21,10 @@ use Rattle.double.specs.Bound.{Light, LightTable, Inside, reach}
 use Rattle.double.specs.Laws.Systems.{inverse-light}
 use Rattle.projection_worked.specs.Inverse.{centre30, centred30, mercator-pair, side-km, Boxed}
 use Rattle.projection_worked.specs.Laws.Size.{tame}
-use Rattle.projection_worked.specs.Laws.Plane.{arguments-inside}
-use Rattle.projection_worked.specs.Laws.InverseUndone.{Lengths, lengths, centred-small, to-limit}
+use Rattle.projection_worked.specs.Laws.InverseLengths.{Lengths, lengths, north-in-range, east-in-range}
 use Rattle.metres.specs.Metres.{arguments-of}
-use Rattle.metres.specs.Laws.Into.{per-one}
-use Rattle.projection_worked.specs.Bounds.{limit30, Placed}
+use Rattle.metres.specs.Laws.Into.{per-one, arguments-inside}
+use Rattle.projection_worked.specs.Bounds.{Placed}
 use Rattle.projection_worked.specs.Laws.Argument.{argument-close}
 use Rattle.projection_worked.specs.Laws.InverseLine.{part-length, first-line, second-line, close-above, close-under, truncated-low, truncated-high, line-low, line-high}
 
@@ -83,26 +81,20 @@ module _ (E : Ellipsoid) {g f : ℕ} (b : Lengths g f) where
   abbrev pair-of : Pair
   pair-of = horner (doubles unit (b-coefficients (constants E))) z-of
 
-  pub north-small : natAbs (centred30 E g) ≤ limit30
-  north-small = to-limit (centred-small E (b .low) (b .high))
-
-  pub east-small : f ≤ limit30
-  east-small = let h = b .side in omega arith
-
   z-inside : Inside z-of reach
-  z-inside = arguments-inside (centred30 E g) (pos f) north-small east-small
+  z-inside = arguments-inside (centred30 E g) (pos f) (north-in-range b E) (east-in-range b)
 
   first-close : Close (value (pair-of .re)) double-unit (pos base *ℤ pos per-one +ℤ pos (slope E) *ℤ centred30 E g) (unit * per-one) 252 1
   first-close =
       part-length (value (pair-of .re)) (value (z-of .re)) (pos base) (pos (slope E)) (centred30 E g) unit double-unit 250
       (subst (λ cs. natAbs (value (horner (doubles unit cs) z-of .re) *ℤ pos unit -ℤ (pos base *ℤ pos double-unit +ℤ value (z-of .re) *ℤ pos (slope E))) ≤ (250 + 1) * (unit * double-unit)) (sym (table-is E)) (first-line (pos base) (pos (slope E)) (tail-of E) z-of reach 250 (table-light E) z-inside (tail-weighs E)))
-      (argument-close (centred30 E g) north-small) (slope-small E)
+      (argument-close (centred30 E g) (north-in-range b E)) (slope-small E)
 
   second-close : Close (value (pair-of .im)) double-unit (pos 0 *ℤ pos per-one +ℤ pos (slope E) *ℤ pos f) (unit * per-one) 252 1
   second-close =
       part-length (value (pair-of .im)) (value (z-of .im)) (pos 0) (pos (slope E)) (pos f) unit double-unit 250
       (subst (λ cs. natAbs (value (horner (doubles unit cs) z-of .im) *ℤ pos unit -ℤ (pos 0 *ℤ pos double-unit +ℤ value (z-of .im) *ℤ pos (slope E))) ≤ (250 + 1) * (unit * double-unit)) (sym (table-is E)) (second-line (pos base) (pos (slope E)) (tail-of E) z-of reach 250 (table-light E) z-inside (tail-weighs E)))
-      (argument-close (pos f) east-small) (slope-small E)
+      (argument-close (pos f) (east-in-range b)) (slope-small E)
 
   north-low : pos (5294000 * double-unit) ≤ℤ value (pair-of .re)
   unfolding centred30

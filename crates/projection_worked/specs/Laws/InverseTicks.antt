@@ -31,7 +31,8 @@ use Rattle.fixed_inverse.specs.Laws.Inverse.{Mercator}
 use Rattle.projection_worked.specs.Worked.{below-nought}
 use Rattle.projection_worked.specs.Inverse.{undone30, centred30, mercator-pair, Boxed}
 use Rattle.projection_worked.specs.Laws.West.{keeps-value, flips-value, mirrored}
-use Rattle.projection_worked.specs.Laws.InverseUndone.{turn-close, near-of, defined-length, undone-near, centred-near, centred-small, lengths}
+use Rattle.projection_worked.specs.Laws.InverseLengths.{lengths}
+use Rattle.projection_worked.specs.Laws.InverseUndone.{turn-close, near-of, defined-length, undone-near, centred-near, centred-small}
 use Rattle.projection_worked.specs.Laws.InversePlane.{inverse-first, inverse-second}
 use Rattle.projection_worked.specs.Bounds.{Placed}
 use Rattle.projection_worked.specs.Laws.InverseRange.{box-placed}

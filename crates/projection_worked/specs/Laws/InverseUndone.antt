@@ -3,11 +3,10 @@ use mathlib.Core.Bool.{Bool, true, false}
 use mathlib.Core.Path.{_≡_, refl, _∙_, ap}
 use mathlib.Core.List.{[], _∷_}
 use Prim.Native.Nat.{ℕ, _+_, _*_, _/_, _^_, _≤_, _<_}
-use native.Mathlib.Nat.{le-trans, le-of-eq, mul-pos, le-of-mul-le-mul-left, le-div-iff-mul-le, div-mul-le-self, le-of-mul-le-mul-right}
+use native.Mathlib.Nat.{le-trans, le-of-eq, mul-pos, le-of-mul-le-mul-left}
 use native.Mathlib.Omega.{arith}
 use lib.Dec.{lit<, lit≤}
 use lib.IntN.{ℤ, pos, negℤ, natAbs, _-ℤ_, _*ℤ_}
-use Rattle.arith.specs.Laws.Diff.{Z·ℕ}
 use Rattle.arith.specs.Laws.Ring.{ring, Z·ring, by-ring, ev-num}
 use Rattle.arith.specs.Laws.Within.{by-abs, w-sub}
 use Rattle.arith.specs.Laws.Close.{Close, close-trans, close-sym, close-neg, close-same, close-floor, close-le}
@@ -17,8 +16,9 @@ use Rattle.rules.specs.Scaled.{unit, one, quotient}
 use Rattle.fixed.specs.Nearness.{NearAt, turned}
 use Rattle.fixed.specs.Laws.Turned.{below-zero, turned-size}
 use Rattle.fixed.specs.Laws.Bounds.{w-same}
-use Rattle.projection_worked.specs.Inverse.{undone30, centre30, centred30, side-km, Boxed}
+use Rattle.projection_worked.specs.Inverse.{undone30, centre30, centred30}
 use Rattle.projection_worked.specs.Bounds.{limit30}
+use Rattle.projection_worked.specs.Laws.InverseLengths.{within}
 
 -- a length near the definition's, from its distance in units of 2^-30 m
 pub near-of : {n w : ℤ} {k : ℕ} → Close n (2 ^ 30) w unit k (2 ^ 30) → NearAt (2 ^ 30) n w (k * unit)
@@ -85,43 +85,11 @@ pub centred-near : (E : Ellipsoid) {g : ℕ} {x : ℤ} → NearAt (2 ^ 30) (pos 
 unfolding centred30
 centred-near E h = near-less h (centre-near E)
 
--- ---- how large: the box's ends stay whole numbers of metres
-pub undone-low : (M n k : ℕ) → 0 < M → k * M ≤ n → k * 1000 * 2 ^ 30 ≤ undone30 M n
-unfolding undone30
-undone-low M n k h l = le-div-iff-mul-le h .1 (go M n k l)
-  where
-    go : (M n k : ℕ) → k * M ≤ n → k * 1000 * 2 ^ 30 * M ≤ n * 1000 * 2 ^ 30
-    go M n k l = omega arith
-
-pub undone-high : (M n k : ℕ) → 0 < M → n ≤ k * M → undone30 M n ≤ k * 1000 * 2 ^ 30
-unfolding undone30
-undone-high M n k h l = le-of-mul-le-mul-right {k = M} (le-trans (div-mul-le-self (n * 1000 * 2 ^ 30) M) (go M n k l)) h
-  where
-    go : (M n k : ℕ) → n ≤ k * M → n * 1000 * 2 ^ 30 ≤ k * 1000 * 2 ^ 30 * M
-    go M n k l = omega arith
-
--- in the box: the lengths that z is made of
-pub record Lengths (g f : ℕ) : Type 0 where
-  pub low : 5300000 * 2 ^ 30 ≤ g
-  pub high : g ≤ 6250000 * 2 ^ 30
-  pub side : f ≤ side-km * 1000 * 2 ^ 30
-
-pub lengths : {M n m : ℕ} → Boxed M n m → Lengths (undone30 M n) (undone30 M m)
-lengths {M} {n} {m} b =
-    let h : 0 < M = above (b .scale-low) in
-    record { low = undone-low M n 5300 h (b .low); high = undone-high M n 6250 h (b .high); side = undone-high M m side-km h (b .side) }
-  where
-    above : {M : ℕ} → 999000 ≤ M → 0 < M
-    above h = omega arith
-
--- at most 485 km from the centre
-apart-small : (g c : ℕ) → 5765180 * 2 ^ 30 ≤ c → c ≤ 5765182 * 2 ^ 30 → 5300000 * 2 ^ 30 ≤ g → g ≤ 6250000 * 2 ^ 30 → natAbs (pos g -ℤ pos c) ≤ 485000 * 2 ^ 30
-apart-small g c k i l h = simp Z·ℕ (omega arith)
-
+-- ---- how large: at most 485 km from the centre
 pub centred-small : (E : Ellipsoid) {g : ℕ} → 5300000 * 2 ^ 30 ≤ g → g ≤ 6250000 * 2 ^ 30 → natAbs (centred30 E g) ≤ 485000 * 2 ^ 30
-unfolding centred30 centre30
-centred-small GRS-80 {g} l h = apart-small g (centre30 GRS-80) (lit≤ tt) (lit≤ tt) l h
-centred-small Krasovsky {g} l h = apart-small g (centre30 Krasovsky) (lit≤ tt) (lit≤ tt) l h
+unfolding centre30
+centred-small GRS-80 = within GRS-80 (485000 * 2 ^ 30) (lit≤ tt) (lit≤ tt)
+centred-small Krasovsky = within Krasovsky (485000 * 2 ^ 30) (lit≤ tt) (lit≤ tt)
 
 pub to-limit : {n : ℕ} → n ≤ 485000 * 2 ^ 30 → n ≤ limit30
 to-limit h = omega arith

@@ -24,10 +24,9 @@ use Rattle.double.specs.Complex.{Numbers, values, horner}
 use Rattle.double.specs.Pairs.{Modulus}
 use Rattle.double.specs.Exact.{doubles}
 use Rattle.double.specs.Bound.{Inside, Apart, Defined, reach, reach-24}
-use Rattle.double.specs.Laws.Promise.{small-inside}
 use Rattle.double.specs.Laws.Systems.{small-reach, forward-defined, derivative-defined}
 use Rattle.metres.specs.Metres.{argument-of, arguments-of}
-use Rattle.metres.specs.Laws.Into.{argument-number, argument-small}
+use Rattle.metres.specs.Laws.Into.{arguments-inside}
 use Rattle.fixed.specs.Nearness.{NearAt}
 use Rattle.projection_worked.specs.Bounds.{limit30}
 use Rattle.projection_worked.specs.Laws.Argument.{z-close, apart}
@@ -85,13 +84,6 @@ close-of-derivative v g e s l h t = record { gap = le-trans (le-trans (times _ _
 
     turn : (t u : ℕ) → 11 * t * u ≡ 11 * (u * t)
     turn t u = omega arith
-
--- z of a pair of lengths of at most 595 km has parts of at most 1.2
-pub arguments-inside : (n m : ℤ) → natAbs n ≤ limit30 → natAbs m ≤ limit30 → Inside (arguments-of n m) reach
-arguments-inside n m c d = small-inside (arguments-of n m) (record { re = argument-number n (below c); im = argument-number m (below d) }) (record { first = argument-small n c; second = argument-small m d })
-  where
-    below : {k : ℕ} → k ≤ limit30 → k < 2 ^ 53
-    below h = omega arith
 
 -- z of the pair of lengths n and m
 module _ (n m x y : ℤ) (a : NearAt (2 ^ 30) n x (50 * unit)) (b : NearAt (2 ^ 30) m y (300 * unit)) (c : natAbs n ≤ limit30) (d : natAbs m ≤ limit30) where

@@ -14,17 +14,15 @@ use Rattle.double.specs.Steps.{All-finite, horner-doubles}
 use Rattle.double.specs.Laws.Steps.{both-lists, table-finite}
 use Rattle.double.specs.Laws.Systems.{forward-light, derivative-light, inverse-light}
 use Rattle.metres.specs.Metres.{argument-doubles, arguments-of}
-use Rattle.metres.specs.Laws.Into.{argument-finite}
+use Rattle.metres.specs.Laws.Into.{argument-finite, arguments-inside}
 use Rattle.fixed_forward.specs.Mercator.{north-of, east-of}
 use Rattle.fixed_forward.specs.Sizes.{north-size, east-size}
 use Rattle.projection_worked.specs.Bounds.{limit30}
 use Rattle.projection_worked.specs.Worked.{millionths-of}
 use Rattle.projection_worked.specs.Inverse.{undone30, centred30}
 use Rattle.projection_worked.specs.Steps.{polynomial-doubles, Steps-finite}
-use Rattle.projection_worked.specs.Laws.Plane.{arguments-inside}
 use Rattle.projection_worked.specs.Laws.Finite.{latitude-taken}
-use Rattle.projection_worked.specs.Laws.InverseUndone.{lengths}
-use Rattle.projection_worked.specs.Laws.InverseRange.{north-small, east-small}
+use Rattle.projection_worked.specs.Laws.InverseLengths.{lengths, north-in-range, east-in-range}
 use Rattle.projection_worked.specs.Laws.InverseBox.{system-millionths, boxed}
 use Rattle.projection_worked.specs.Laws.Point.{within-reach}
 
@@ -57,5 +55,5 @@ steps-finite = record {
       let E = s .ellipsoid in
       let b = lengths (boxed s (millionths-of s) (system-millionths code s (h .0)) X Y (h .1)) in
       polynomial-finite (b-coefficients (constants E)) (centred30 E (undone30 (millionths-of s) (natAbs (X -ℤ offset-X s)))) (pos (undone30 (millionths-of s) (natAbs (Y -ℤ offset-Y s))))
-      (inverse-light E) (north-small E b) (east-small E b);
+      (inverse-light E) (north-in-range b E) (east-in-range b);
 }

@@ -14,7 +14,8 @@ use Rattle.double.specs.Exact.{doubles}
 use Rattle.metres.specs.Metres.{arguments-of}
 use Rattle.systems.specs.Zones.{ellipsoid-of}
 use Rattle.projection_worked.specs.Inverse.{undone30, centred30, mercator-pair}
-use Rattle.projection_worked.specs.Laws.InverseUndone.{lengths, centred-small}
+use Rattle.projection_worked.specs.Laws.InverseLengths.{lengths}
+use Rattle.projection_worked.specs.Laws.InverseUndone.{centred-small}
 use Rattle.projection_worked.specs.Laws.Undoing.{word}
 use borrow.Author.Needs.{needs, sfits-of}
 use Rattle.projection_inverse.proofs.backward.mercator_pair.Statement.{statement}
