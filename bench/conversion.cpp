@@ -2,13 +2,14 @@
 // before anything is timed.
 #include "lists.h"
 #include "plane.h"
+#include "returned.h"
 
 struct Two {
     int64_t refused, x, y;
 };
 
 extern "C" {
-Two bench_plane(uint8_t from, uint8_t to, int64_t x, int64_t y);
+void bench_plane(Two *answer, uint8_t from, uint8_t to, int64_t x, int64_t y);
 uint8_t bench_ring(uint8_t from, uint8_t to, const int64_t *corners, size_t count, int64_t *output, size_t room);
 }
 
@@ -29,7 +30,7 @@ static std::vector<Plane> points_of(const Pair &pair) {
     PJ *source = made(pair.from.text());
     std::vector<Plane> found;
     for (const Plane &point : plane_of(source, points_of(pair.from, 4 * COUNT)))
-        if (bench_plane(pair.from.code, pair.to.code, point.x, point.y).refused == 0 && found.size() < COUNT) found.push_back(point);
+        if (returned(bench_plane, pair.from.code, pair.to.code, point.x, point.y).refused == 0 && found.size() < COUNT) found.push_back(point);
     must(found.size() == COUNT, "two systems have too few points in common");
     proj_destroy(source);
     return found;
@@ -41,10 +42,10 @@ static void time_plane(const Pair &pair, Lists &lists) {
     PJ *exact = pair.peer(), *approx = pair.peer("+approx");
     for (PJ *peer : {exact, approx})
         for (int k = 0; k < COUNT; k++) {
-            Two answer = bench_plane(pair.from.code, pair.to.code, at[k].x, at[k].y);
+            Two answer = returned(bench_plane, pair.from.code, pair.to.code, at[k].x, at[k].y);
             must(agrees(proj_trans(peer, PJ_FWD, metres[k]), answer.x, answer.y), "a point differs from PROJ");
         }
-    lists.time([&](long k) { return bench_plane(pair.from.code, pair.to.code, at[k].x, at[k].y).x; },
+    lists.time([&](long k) { return returned(bench_plane, pair.from.code, pair.to.code, at[k].x, at[k].y).x; },
                [&](long k) { return peer_plane(exact, metres[k]); },
                [&](long k) { return peer_plane(approx, metres[k]); });
     proj_destroy(exact);

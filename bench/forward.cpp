@@ -1,6 +1,7 @@
 // Times the forward projection beside PROJ's `tmerc`, default and +approx, in one run: X and Y alone beside proj_trans, and X, Y, scale and convergence in one call
 // beside proj_trans with proj_factors. All answers are compared with both forms of the peer before anything is timed.
 #include "lists.h"
+#include "returned.h"
 #include "systems.h"
 
 struct Four {
@@ -12,15 +13,15 @@ struct Two {
 };
 
 extern "C" {
-Four bench_forward(uint8_t code, int64_t b, int64_t l);
-Two bench_forward_plane(uint8_t code, int64_t b, int64_t l);
+void bench_forward(Four *answer, uint8_t code, int64_t b, int64_t l);
+void bench_forward_plane(Two *answer, uint8_t code, int64_t b, int64_t l);
 }
 
 // Within 0.7 of each unit, which is our rounding and a little.
 static void compare(const System &system, const std::vector<Ticks> &at, PJ *peer, const std::vector<PJ_COORD> &radians) {
     for (int k = 0; k < COUNT; k++) {
-        Four answer = bench_forward(system.code, at[k].b, at[k].l);
-        Two alone = bench_forward_plane(system.code, at[k].b, at[k].l);
+        Four answer = returned(bench_forward, system.code, at[k].b, at[k].l);
+        Two alone = returned(bench_forward_plane, system.code, at[k].b, at[k].l);
         must(answer.refused == 0 && alone.refused == 0, "a point is refused");
         must(alone.x == answer.x && alone.y == answer.y, "the two forward calls differ");
         PJ_COORD plane = proj_trans(peer, PJ_FWD, radians[k]);
@@ -44,10 +45,10 @@ static void time(const System &system, Lists &plane, Lists &four) {
     PJ *exact = made(system.text()), *approx = made(system.text("+approx"));
     compare(system, at, exact, radians);
     compare(system, at, approx, radians);
-    plane.time([&](long k) { return bench_forward_plane(system.code, at[k].b, at[k].l).x; },
+    plane.time([&](long k) { return returned(bench_forward_plane, system.code, at[k].b, at[k].l).x; },
                [&](long k) { return peer_plane(exact, radians[k]); },
                [&](long k) { return peer_plane(approx, radians[k]); });
-    four.time([&](long k) { return bench_forward(system.code, at[k].b, at[k].l).x; },
+    four.time([&](long k) { return returned(bench_forward, system.code, at[k].b, at[k].l).x; },
               [&](long k) { return peer_four(exact, radians[k]); },
               [&](long k) { return peer_four(approx, radians[k]); });
     proj_destroy(exact);

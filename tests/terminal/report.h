@@ -10,7 +10,8 @@ extern uint64_t cases, differences;
 /* The calls, and the judge itself where it is held to a worked number. */
 enum call { FORWARD, INVERSE, PLANE_TO_PLANE, CONVERT_RING, AREA2, TURNING_NUMBER, CROSSING, NOZZLE, JUDGE, CALLS };
 
-/* Counts a case of a call and what it returned. Where it is not `right`, counts a difference and prints it with its numbers, for the first ten. */
+/* Counts a case of a call and what it returned. Where it is not `right`, or the call has no such number, counts a difference and prints it with its numbers, for the
+   first ten. */
 void judge(int right, enum call call, int returned, const char *what, const int64_t *numbers, size_t count);
 
 /* Counts a difference for each number that a call can return and did not: then the inputs tried too little. */

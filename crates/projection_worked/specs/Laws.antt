@@ -9,7 +9,7 @@ pub mod Plane
 pub mod West
 pub mod Size
 pub mod Forward
-pub mod Finite
+pub mod Taken
 pub mod Slope
 pub mod SlopeParts
 pub mod Derivative

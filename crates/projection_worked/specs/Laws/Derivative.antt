@@ -42,7 +42,7 @@ use Rattle.projection_worked.specs.Laws.West.{keeps-value, flips-value, 
 use Rattle.projection_worked.specs.Laws.Size.{tame}
 use Rattle.projection_worked.specs.Laws.Slope.{sloped}
 use Rattle.projection_worked.specs.Laws.InverseTicks.{nought-size}
-use Rattle.projection_worked.specs.Laws.Finite.{slope-tame}
+use Rattle.projection_worked.specs.Laws.Taken.{slope-tame}
 use Rattle.projection_worked.specs.Laws.SlopeParts.{Parted, parted, first-near, slope-near, first-low-60, first-high-60, slope-high}
 
 -- y of at most 485 km is a second part of z of at most 0.98

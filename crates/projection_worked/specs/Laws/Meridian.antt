@@ -18,7 +18,7 @@ use Rattle.rules.specs.Laws.Meridian.{none-left}
 use Rattle.rules.specs.Laws.OwnAnswers.{alone, nearest-within, forward-is-right}
 use Rattle.meridian.specs.Laws.Scale.{m0-whole, scale-near-m0}
 use Rattle.projection_worked.specs.Worked.{millionths-of, worked-forward}
-use Rattle.projection_worked.specs.Laws.Finite.{latitude-taken}
+use Rattle.projection_worked.specs.Laws.Taken.{latitude-taken}
 use Rattle.projection_worked.specs.Laws.InverseBox.{system-millionths}
 use Rattle.projection_worked.specs.Laws.Point.{forward-right}
 

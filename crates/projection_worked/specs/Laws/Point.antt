@@ -23,7 +23,7 @@ use Rattle.fixed_units.specs.Convergence.{convergence-band}
 use Rattle.projection_worked.specs.Worked.{slope-pair, below-nought, millionths-of, scale-from, convergence-from, worked-X, worked-Y, worked-scale, worked-convergence, worked-point, worked-forward}
 use Rattle.projection_worked.specs.Laws.Forward.{X-near, Y-near}
 use Rattle.projection_worked.specs.Laws.Derivative.{first-fixed, slope-fixed, slope-sided, other}
-use Rattle.projection_worked.specs.Laws.Finite.{latitude-taken}
+use Rattle.projection_worked.specs.Laws.Taken.{latitude-taken}
 use Rattle.projection_worked.specs.Laws.InverseBox.{Millionths, system-millionths, system-narrow}
 
 less-offset : (a d : ℤ) → a +ℤ d -ℤ a ≡ d

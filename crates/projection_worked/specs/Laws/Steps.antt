@@ -21,7 +21,7 @@ use Rattle.projection_worked.specs.Bounds.{limit30}
 use Rattle.projection_worked.specs.Worked.{millionths-of}
 use Rattle.projection_worked.specs.Inverse.{undone30, centred30}
 use Rattle.projection_worked.specs.Steps.{polynomial-doubles, Steps-finite}
-use Rattle.projection_worked.specs.Laws.Finite.{latitude-taken}
+use Rattle.projection_worked.specs.Laws.Taken.{latitude-taken}
 use Rattle.projection_worked.specs.Laws.InverseLengths.{lengths, north-in-range, east-in-range}
 use Rattle.projection_worked.specs.Laws.InverseBox.{system-millionths, boxed}
 use Rattle.projection_worked.specs.Laws.Point.{within-reach}

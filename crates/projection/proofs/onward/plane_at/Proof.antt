@@ -17,7 +17,7 @@ use Rattle.fixed.specs.Nearness.{turned}
 use Rattle.fixed_forward.specs.Ellipsoids.{which}
 use Rattle.systems.specs.declared.Zone.{Zone}
 use Rattle.projection_worked.specs.Worked.{z-of, plane-pair, scaled-part}
-use Rattle.projection_worked.specs.Laws.Finite.{latitude-taken, plane-tame}
+use Rattle.projection_worked.specs.Laws.Taken.{latitude-taken, plane-tame}
 use Rattle.projection_worked.specs.Bounds.{Tame}
 use Rattle.projection.specs.Located.{LocatedAt}
 use Rattle.projection.specs.Laws.Stood.{X-stands, Y-stands}

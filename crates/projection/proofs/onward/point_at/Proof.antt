@@ -19,7 +19,7 @@ use Rattle.fixed_bands.specs.Bands.{Latitude}
 use Rattle.systems.specs.Zones.{Stands}
 use Rattle.systems.specs.declared.Zone.{Zone}
 use Rattle.projection_worked.specs.Worked.{z-of, plane-pair, slope-pair, scaled-part, scale-from, convergence-from, worked-X, worked-Y, worked-scale, worked-convergence}
-use Rattle.projection_worked.specs.Laws.Finite.{latitude-taken, plane-tame, slope-tame}
+use Rattle.projection_worked.specs.Laws.Taken.{latitude-taken, plane-tame, slope-tame}
 use Rattle.projection_worked.specs.Laws.Derivative.{point-sloped}
 use Rattle.projection_worked.specs.Bounds.{Tame, Sloped}
 use Rattle.projection.specs.Located.{LocatedAt}

@@ -1,4 +1,4 @@
--- The steps in f64 of a point that is taken forward: finite, and below 8,000,001 m. Assumes nothing.
+-- A point that is taken forward: its latitude, and that its steps in f64 are finite and below 8,000,001 m. Assumes nothing.
 use mathlib.Core.Bool.{false}
 use mathlib.Core.Path.{_≡_, refl}
 use Prim.Native.Nat.{ℕ, _≤_}
