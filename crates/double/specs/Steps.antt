@@ -16,7 +16,7 @@ abbrev pub All-finite : List Float → Type 0
 All-finite [] = Unit
 All-finite (x ∷ xs) = T (finite x) × All-finite xs
 
--- of a step r * z + c: four products, their difference and their sum, the coefficient, and what it is added to
+-- of a step r * z + c: two products and their difference, two products and their sum, the coefficient, and the sum with it
 abbrev pub step-doubles : Pair → Pair → Float → List Float
 step-doubles r z c =
     mul binary64 (r .re) (z .re) ∷ mul binary64 (r .im) (z .im) ∷ product r z .re
