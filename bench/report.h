@@ -27,3 +27,6 @@ static inline void row(const std::string &call, long size, const char *unit, dou
     for (const Peer &peer : peers) printf("\t%s\t%.17g", peer.name, peer.nanoseconds);
     printf("\n");
 }
+
+// How many pairs of edges a row's call said that it looked at.
+static inline void pairs(const std::string &call, long size, long looked) { printf("pairs\t%s\t%ld\t%ld\n", call.c_str(), size, looked); }

@@ -16,8 +16,6 @@ uint8_t bench_position(const int64_t *corners, size_t count, int64_t px, int64_t
 uint8_t bench_nozzle(const int64_t *corners, size_t count, int64_t px, int64_t py);
 }
 
-static const uint64_t CLEAN = 10000;
-
 static int64_t turning(const Ring &ring, const Place &at) { return bench_turning(ring.numbers.data(), ring.numbers.size(), at.x, at.y); }
 static int64_t position(const Ring &ring, const Place &at) { return bench_position(ring.numbers.data(), ring.numbers.size(), at.x, at.y); }
 static int64_t nozzle(const Ring &ring, const Place &at) { return bench_nozzle(ring.numbers.data(), ring.numbers.size(), at.x, at.y); }
@@ -38,11 +36,12 @@ static void compare_places(const Ring &ring, const GeosRing &peer) {
 }
 
 static void compare(const Ring &ring, const GeosRing &peer) {
-    must(crossing(ring) == (int64_t)CLEAN && peer.valid() && peer.prepared_valid(), "a ring is not clean");
+    const int64_t corners = (int64_t)ring.corners();
+    must(crossing(ring) == corners * (corners - 1) / 2 && peer.valid() && peer.prepared_valid(), "a ring is not clean, or not all of its pairs were looked at");
     compare_places(ring, peer);
     Ring other = exchanged(ring);
     GeosRing other_peer(other);
-    must((crossing(other) == (int64_t)CLEAN) == other_peer.valid(), "a crossing differs from GEOS");
+    must((crossing(other) != 0) == other_peer.valid(), "a crossing differs from GEOS");
     for (const Place &at : places_of(other, 4)) must(nozzle(other, at) == other_peer.nozzle(at), "a crossed ring's nozzle differs from GEOS");
 }
 
@@ -63,21 +62,28 @@ static void point_rows(const Ring &ring, const GeosRing &peer) {
     row(named("position", ring), ring.corners(), "corners", times[1], {{"GEOS", times[2]}, {"prepared", times[4]}});
 }
 
-// The calls that test the crossing. Fewer places serve, since a call is long; each work that takes a place goes round all of them.
-static void pair_rows(const Ring &ring, const GeosRing &peer) {
-    const long count = 64, corners = ring.corners();
-    const long our_rounds = std::max(1L, 30000 / (corners * corners)), peer_rounds = std::max(1L, 500 / corners);
+static long our_rounds(const Ring &ring) { return std::max(1L, 30000 / (long)(ring.corners() * ring.corners())); }
+static long peer_rounds(const Ring &ring) { return std::max(1L, 500 / (long)ring.corners()); }
+
+static void crossing_row(const Ring &ring, const GeosRing &peer) {
+    auto times = together(
+        work(16 * our_rounds(ring), [&](long) { return crossing(ring); }),
+        work(16 * peer_rounds(ring), [&](long) { return (int64_t)peer.valid(); }),
+        work(16 * peer_rounds(ring), [&](long) { return (int64_t)peer.prepared_valid(); }));
+    row(named("crossing", ring), ring.corners(), "corners", times[0], {{"GEOS", times[1]}, {"prepared", times[2]}});
+    pairs(named("crossing", ring), ring.corners(), crossing(ring));
+}
+
+// Fewer places serve than for `position`, since a call is long; each work that takes a place goes round all of them.
+static void nozzle_row(const Ring &ring, const GeosRing &peer) {
+    const long count = 64;
     std::vector<Place> at = places_of(ring, count);
     GeosPoints points(at);
     auto times = together(
-        work(16 * our_rounds, [&](long) { return crossing(ring); }),
-        work(count * our_rounds, [&](long k) { return nozzle(ring, at[k % count]); }),
-        work(16 * peer_rounds, [&](long) { return (int64_t)peer.valid(); }),
-        work(16 * peer_rounds, [&](long) { return (int64_t)peer.prepared_valid(); }),
-        work(count * peer_rounds, [&](long k) { return (int64_t)peer.nozzle(at[k % count]); }),
+        work(count * our_rounds(ring), [&](long k) { return nozzle(ring, at[k % count]); }),
+        work(count * peer_rounds(ring), [&](long k) { return (int64_t)peer.nozzle(at[k % count]); }),
         work(16 * count, [&](long k) { return (int64_t)peer.prepared_place(points[k % count]); }));
-    row(named("crossing", ring), corners, "corners", times[0], {{"GEOS", times[2]}, {"prepared", times[3]}});
-    row(named("nozzle", ring), corners, "corners", times[1], {{"GEOS", times[4]}, {"prepared", times[5]}});
+    row(named("nozzle", ring), ring.corners(), "corners", times[0], {{"GEOS", times[1]}, {"prepared", times[2]}});
 }
 
 int main() {
@@ -85,12 +91,14 @@ int main() {
     std::string version = GEOSversion();
     about("GEOS " + version.substr(0, version.find('-')));
     for (auto shape : {field, comb})
-        for (int corners : {6, 16, 64, 256, 1024}) {
+        for (int corners : {6, 16, 32, 64, 128, 256, 512, 1024}) {
             Ring ring = shape(corners);
             GeosRing peer(ring);
             compare(ring, peer);
+            crossing_row(ring, peer);
+            if (corners == 32 || corners == 128 || corners == 512) continue;
             point_rows(ring, peer);
-            pair_rows(ring, peer);
+            nozzle_row(ring, peer);
         }
     finishGEOS();
 }

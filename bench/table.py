@@ -8,9 +8,10 @@ A row is a line of fields parted by tabs:
     about TEXT                                          something for the heading; a text that comes again is said once
     time  CALL SIZE UNIT OURS [PEER ITS [PEER ITS]]     nanoseconds for the whole of the size, ours and those of one or two peers
     rate  CALL SIZE UNIT OURS                           records a second; nothing does the same, so it has no peer
+    pairs CALL SIZE PAIRS                               how many pairs of edges that row's call said that it looked at
 
 A row may come several times; the table has the least of its times, of ours and of each peer. Rows of one call stand together, in the order in which they came; so do
-the calls whose names are the same up to a comma. A call `leaf, ..` that takes more than twice its first peer's time is warned of on standard error.
+the calls whose names are the same up to a comma. Of the rows that have pairs a second table is made, of milliseconds by corners and pairs. A call `leaf, ..` that takes more than twice its first peer's time is warned of on standard error.
 Assumes Python 3.9 or newer and its standard library.
 """
 
@@ -36,8 +37,8 @@ Row = namedtuple("Row", "call size unit rate time peers")
 
 
 def read(lines):
-    """The heading's texts and the rows, each once."""
-    texts, rows = {}, {}
+    """The heading's texts and the rows, each once, and the pairs looked at by call and size."""
+    texts, rows, pairs = {}, {}, {}
     for line in lines:
         kind, *fields = line.rstrip("\n").split("\t")
         if kind == "about":
@@ -46,9 +47,11 @@ def read(lines):
             row = read_row(kind == "rate", *fields)
             key = (row.call, row.size)
             rows[key] = least(rows[key], row) if key in rows else row
+        elif kind == "pairs":
+            pairs[fields[0], int(fields[1])] = int(fields[2])
         else:
             sys.exit("bench/table.py: no row of the kind %r" % kind)
-    return list(texts), list(rows.values())
+    return list(texts), list(rows.values()), pairs
 
 
 def read_row(rate, call, size, unit, ours, *peers):
@@ -123,8 +126,18 @@ def machine():
     return "%s, %d cores" % (name, os.cpu_count())
 
 
+def figure(rows, pairs):
+    """The dealer's table: the time in milliseconds for a ring, by its corners and the pairs of edges looked at, a column for each shape of ring."""
+    timed = {(row.call, row.size): row.time for row in rows if (row.call, row.size) in pairs}
+    calls = list(dict.fromkeys(call for call, _ in timed))
+    print("\nMilliseconds to test a clean ring for crossings:\n")
+    print("| " + " | ".join(["corners", "pairs looked at"] + [call.split(", ")[1] for call in calls]) + " |\n" + "|---" * (2 + len(calls)) + "|")
+    for size in sorted({size for _, size in timed} - {6}):
+        print("| {:,} | {:,} | ".format(size, pairs[calls[0], size]) + " | ".join(three_digits(timed[call, size] / 1e6) for call in calls) + " |")
+
+
 def main():
-    texts, rows = read(sys.stdin)
+    texts, rows, pairs = read(sys.stdin)
     heading = "; ".join([datetime.date.today().isoformat(), machine()] + texts) + "."
     for text in (heading, LEGEND):
         print(textwrap.fill(text, 160, break_on_hyphens=False, break_long_words=False) + "\n")
@@ -134,6 +147,8 @@ def main():
         print("| " + " | ".join(cells(row, before)) + " |")
         warn(row)
         before = row
+    if pairs:
+        figure(rows, pairs)
 
 
 main()

@@ -4,16 +4,17 @@
  * Link target/staticlib/libterminal.a (x86-64), which `rt staticlib terminal` proves and writes; examples/nozzle.c is a whole program.
  *
  * Every call answers on every input. It returns 0, and then the memory lent for the answer holds it; or it returns the number of a refusal (the list
- * below), and then the lent memory holds what it held before. Refusal 9, a crossed ring, alone writes something: its two edge numbers, into the place
- * lent for them. A call keeps nothing: no state, no allocation, no file, no lock; calls on different memory may run at the same time.
+ * below), and then the lent memory holds what it held before. Refusal 9, a crossed ring, alone writes something: its two edge numbers and the count of
+ * pairs looked at, into the places lent for them. A call keeps nothing: no state, no allocation, no file, no lock; calls on different memory may run at
+ * the same time.
  *
  * What the caller owes, since C cannot say it and the library cannot check it:
  *  - No pointer is null, also where the length beside it is 0 (any address of an int64_t serves then). Each is aligned as an int64_t is.
  *  - `int64_t answer[4]` is a pointer to at least as many numbers as stand in the brackets, all of them readable and writable. The library trusts this
  *    size; sizes that travel beside a pointer (`numbers`, `out_numbers`) are counts of int64_t, not of bytes and not of corners, and are checked.
  *  - A code is handed over as eight bits: C itself cuts a larger number to its last eight bits before the call, so 257 arrives as 1.
- *  - Memory that a call writes overlaps no other memory lent to the same call: `out` not `corners`, `edges` not `answer`. Memory that is only read may be
- *    shared.
+ *  - Memory that a call writes overlaps no other memory lent to the same call: `out` not `corners`; `answer`, `edges` and `pairs` not one another. Memory
+ *    that is only read may be shared.
  *
  * Units: angles in ticks, whole millionths of an arc second (one degree is 3600000000); plane in whole millimetres, X north and Y east; scale in units
  * of 10^-9; convergence in thousandths of an arc second, positive east of the central meridian. The scale is the grid's, a length in the plane by that on the
@@ -109,17 +110,19 @@ uint8_t misgwalor_turning_number(const int64_t *corners, size_t numbers, int64_t
  * Whether a ring is crossed. Returns 0 where it is clean.
  * edges: on 9 the two edges of the first crossed pair, the lower number first; pairs are ordered by the lower and then by the higher number. On 0 and
  * on the other refusals edges holds what it held.
+ * pairs: how many pairs of edges were looked at, in that order. On 0 it is all of them, n(n-1)/2 of n corners; on 9 the place of the first crossed pair,
+ * counted from 1. On the other refusals pairs holds what it held. docs/PERFORMANCE.md has the time that the test takes.
  * Refusals, in this order: 6, 7, 8, 9.
  */
-uint8_t misgwalor_crossing(const int64_t *corners, size_t numbers, int64_t edges[2]);
+uint8_t misgwalor_crossing(const int64_t *corners, size_t numbers, int64_t edges[2], int64_t pairs[1]);
 
 /*
  * The nozzle's answer for a ring and the point (px, py), any pair of int64_t: MISGWALOR_NOZZLE_BORDER on an edge, else MISGWALOR_NOZZLE_OPEN where the
  * turning number is not 0, else MISGWALOR_NOZZLE_SHUT. Clockwise and anticlockwise rings answer alike.
- * answer: on 0 the answer; on a refusal what it held. edges: on 9 as misgwalor_crossing writes them; else what it held. They may not overlap.
+ * answer: on 0 the answer; on a refusal what it held. edges, pairs: on 9 as misgwalor_crossing writes them; else what they held. They may not overlap.
  * Refusals, in this order: 6, 7, 8, 9.
  */
-uint8_t misgwalor_nozzle(const int64_t *corners, size_t numbers, int64_t px, int64_t py, int64_t answer[1], int64_t edges[2]);
+uint8_t misgwalor_nozzle(const int64_t *corners, size_t numbers, int64_t px, int64_t py, int64_t answer[1], int64_t edges[2], int64_t pairs[1]);
 
 #ifdef __cplusplus
 }

@@ -67,6 +67,15 @@ def comb(teeth, height=9, below=5):
     return corners + [(-below, 4 * teeth)]
 
 
+def pulled(corners, low, high):
+    """A convex ring whose corner high + 1 is pulled past the middle of edge `low`: edge `high` and the one after it cross that edge."""
+    n = len(corners)
+    (ax, ay), (bx, by) = corners[low], corners[(low + 1) % n]
+    mx, my = sum(x for x, _ in corners) // n, sum(y for _, y in corners) // n
+    tip = ((ax + bx) // 2 + ((ax + bx) // 2 - mx) // 50, (ay + by) // 2 + ((ay + by) // 2 - my) // 50)
+    return corners[:high + 1] + [tip] + corners[high + 2:]
+
+
 def star(corners, step):
     """The corners of a ring taken `step` apart: it turns `step` times round its middle."""
     return [corners[k * step % len(corners)] for k in range(len(corners))]
@@ -303,9 +312,21 @@ def large(rng):
     yield flat(ring[:512] * 2), [(50, 300)]
 
 
+def runs(rng):
+    """Clean rings of which one corner is pulled across a side: the pairs come where a search may take sixteen edges at a time, at either end of the sixteen."""
+    for quarter in (8, 9, 16, 17, 33):
+        ring = [(x * 1000, y * 1000) for x, y in convex(quarter)]
+        n = len(ring)
+        yield flat(ring), [ring[0]]
+        for low in (0, 1, 15, 16, n - 18):
+            for high in sorted({low + 2, 15, 16, 17, 31, 32, 33, 47, 48, 63, 64, n - 3, n - 2}):
+                if low + 1 < high < n - 1 and (low, high) != (0, n - 2):
+                    yield flat(pulled(ring, low, high)), [(0, 0)]
+
+
 GROUPS = [
     counts, numbers_at_the_limit, spans, ends_of_i64, without_length, spikes, touching, on_one_line, small, small_clean, almost, stars_and_combs, middling,
-    large,
+    large, runs,
 ]
 
 

@@ -7,7 +7,7 @@ Assumes Python 3.9 or newer and its standard library.
 """
 
 from fractions import Fraction
-from itertools import product
+from itertools import combinations, product
 from math import lcm
 
 LEAST_CORNERS = 3
@@ -100,14 +100,17 @@ def pair_crossed(corners, low, high):
     return bool(shared(a, b, c, d))
 
 
+def looked_through(corners):
+    """The first crossed pair in order of the lower edge number, then of the higher, None for a clean ring; and how many pairs were looked at, that one too."""
+    looked = 0
+    for looked, (low, high) in enumerate(combinations(range(len(corners)), 2), 1):
+        if pair_crossed(corners, low, high):
+            return (low, high), looked
+    return None, looked
+
+
 def first_crossed(corners):
-    """The first crossed pair in order of the lower edge number, then of the higher; None for a clean ring."""
-    n = len(corners)
-    for low in range(n):
-        for high in range(low + 1, n):
-            if pair_crossed(corners, low, high):
-                return low, high
-    return None
+    return looked_through(corners)[0]
 
 
 # ---- area, turning number, border
@@ -184,14 +187,14 @@ class Ring:
     def __init__(self, numbers):
         self.numbers = list(numbers)
         self.corners, self.refusal = corners_of(self.numbers)
-        self.pair = first_crossed(self.corners) if self.corners else None
+        self.pair, self.looked = looked_through(self.corners) if self.corners else (None, 0)
         self.area2 = area2(self.corners) if self.corners else None
 
     def line(self, p):
         """The line of the vectors: area, turning number, crossing, nozzle and position answers in this order."""
         if self.refusal:
             return "area2 refused %d turning refused %d crossing refused %d nozzle refused %d position refused %d" % ((self.refusal,) * 5)
-        crossing = "crossed %d %d" % self.pair if self.pair else "clean"
+        crossing = ("crossed %d %d" % self.pair if self.pair else "clean") + " looked %d" % self.looked
         place = position(self.corners, p)
         nozzle = crossing if self.pair else place
         turning = turning_number(self.corners, p)
@@ -210,7 +213,7 @@ def worked():
     assert turning_number(square, (0, 500)) == 1 and position(square, (0, 500)) == "border"
     assert turning_number(square, (1000, 500)) == 0 and position(square, (1000, 500)) == "border"
     assert area2(square[0:3]) == area2(square[0:1] + square[2:]) == 1_000_000
-    assert first_crossed(bow) == (0, 2) and first_crossed(square) is None
+    assert looked_through(bow) == ((0, 2), 2) and looked_through(square) == (None, 6)
 
 
 def literal(width=3):

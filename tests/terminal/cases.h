@@ -25,4 +25,7 @@ void conversion_cases(uint64_t rounds);
 /* A random ring of `count` numbers at most into `numbers`, accepted or not; says how many numbers it has. */
 size_t random_ring(int64_t *numbers, size_t most);
 
+/* A large ring that is clean, or crossed by one corner alone, into 2,048 numbers; says how many it has. */
+size_t pulled_ring(int64_t *numbers);
+
 #endif

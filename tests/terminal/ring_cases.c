@@ -9,7 +9,7 @@
 #include "ring_judge.h"
 
 /* The pieces of lend.h. */
-enum { CORNERS = 0, ANSWER = 1, EDGES = 2 };
+enum { CORNERS = 0, ANSWER = 1, EDGES = 2, PAIRS = 3 };
 
 static int64_t *ring;
 static size_t count;
@@ -33,6 +33,12 @@ static int edges_right(uint8_t returned, const int64_t *edges) {
     return returned == 9 ? edges[0] == verdict.low && edges[1] == verdict.high && lend_kept(EDGES, 2) : lend_kept(EDGES, 0);
 }
 
+/* Whether the array lent for the pairs looked at is right: written on 9, and on 0 where the call says a clean ring's too; kept else. */
+static int pairs_right(uint8_t returned, const int64_t *pairs, int clean_too) {
+    int written = returned == 9 || (clean_too && returned == 0);
+    return written ? pairs[0] == verdict.looked && lend_kept(PAIRS, 1) : lend_kept(PAIRS, 0);
+}
+
 static void try_area(void) {
     int64_t *answer = lend(ANSWER, 1);
     uint8_t returned = misgwalor_area2(ring, count, answer);
@@ -49,19 +55,21 @@ static void try_turning(int64_t px, int64_t py) {
 }
 
 static void try_crossing(void) {
-    int64_t *edges = lend(EDGES, 2);
-    uint8_t returned = misgwalor_crossing(ring, count, edges);
+    int64_t *edges = lend(EDGES, 2), *pairs = lend(PAIRS, 1);
+    uint8_t returned = misgwalor_crossing(ring, count, edges, pairs);
     int owed = verdict.refusal ? verdict.refusal : verdict.crossed ? 9 : 0;
-    judge(returned == owed && edges_right(returned, edges) && lend_kept(CORNERS, 0), CROSSING, returned, "ring", ring, count);
+    int right = returned == owed && edges_right(returned, edges) && pairs_right(returned, pairs, 1) && lend_kept(CORNERS, 0);
+    judge(right, CROSSING, returned, "ring", ring, count);
 }
 
 static void try_nozzle(int64_t px, int64_t py) {
-    int64_t *answer = lend(ANSWER, 1), *edges = lend(EDGES, 2);
-    uint8_t returned = misgwalor_nozzle(ring, count, px, py, answer, edges);
+    int64_t *answer = lend(ANSWER, 1), *edges = lend(EDGES, 2), *pairs = lend(PAIRS, 1);
+    uint8_t returned = misgwalor_nozzle(ring, count, px, py, answer, edges, pairs);
     int owed = verdict.refusal ? verdict.refusal : verdict.crossed ? 9 : 0;
     int64_t stands = 0;
     if (!owed) stands = judge_border(ring, count, px, py) ? 2 : judge_turning(ring, count, px, py) != 0 ? 1 : 0;
-    int right = returned == owed && one_number(owed, answer, stands) && edges_right(returned, edges) && lend_kept(CORNERS, 0);
+    int right = returned == owed && one_number(owed, answer, stands) && edges_right(returned, edges);
+    right = right && pairs_right(returned, pairs, 0) && lend_kept(CORNERS, 0);
     judge(right, NOZZLE, returned, "ring", ring, count);
 }
 
@@ -116,6 +124,15 @@ static void small_rings(uint64_t rounds) {
     }
 }
 
+/* Rings that are clean but for one corner, pulled across a side: the first crossed pair comes at any place, also far on in a large ring. */
+static void late_crossings(uint64_t rounds) {
+    static int64_t numbers[2048];
+    for (uint64_t i = 0; i < rounds; i++) {
+        lay(numbers, pulled_ring(numbers), 1);
+        try_all(1);
+    }
+}
+
 void ring_cases(uint64_t rounds) {
     static int64_t numbers[LEND_MOST];
     for (uint64_t i = 0; i < rounds; i++) {
@@ -124,6 +141,7 @@ void ring_cases(uint64_t rounds) {
         try_all(length > 200 ? 3 : 4);
     }
     small_rings(rounds / 100);
+    late_crossings(rounds / 100);
 }
 
 /* ---- the worked numbers of document 01 */
@@ -159,7 +177,7 @@ void known_rings(void) {
     expect_ring(half, 6, 1000000, 0);
     expect_ring(other, 6, 1000000, 0);
     expect_ring(bow, 8, 0, 1);
-    judge(verdict.low == 0 && verdict.high == 2, JUDGE, 0, "P12", ring, count);
+    judge(verdict.low == 0 && verdict.high == 2 && verdict.looked == 2, JUDGE, 0, "P12", ring, count);
     expect_point(900, 500, -1, 0);
     expect_point(100, 500, 1, 0);
     expect_point(500, 100, 0, 0);

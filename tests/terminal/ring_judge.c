@@ -71,13 +71,14 @@ static int crossed_pair(const int64_t *numbers, size_t count, size_t k, size_t l
 
 static void find_crossing(const int64_t *numbers, size_t count, struct ring_verdict *verdict) {
     for (size_t k = 0; k < count / 2; k++)
-        for (size_t l = k + 1; l < count / 2; l++)
-            if (crossed_pair(numbers, count, k, l)) {
-                verdict->crossed = 1;
-                verdict->low = (int64_t)k;
-                verdict->high = (int64_t)l;
-                return;
-            }
+        for (size_t l = k + 1; l < count / 2; l++) {
+            verdict->looked++;
+            if (!crossed_pair(numbers, count, k, l)) continue;
+            verdict->crossed = 1;
+            verdict->low = (int64_t)k;
+            verdict->high = (int64_t)l;
+            return;
+        }
 }
 
 struct ring_verdict judge_ring(const int64_t *numbers, size_t count, int with_crossing) {

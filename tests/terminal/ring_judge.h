@@ -15,6 +15,7 @@ struct ring_verdict {
     int64_t area2;          /* where it is not refused */
     int crossed;            /* whether 9 is given, and its edges */
     int64_t low, high;
+    int64_t looked;         /* the pairs of edges looked at, one by one in the order of 01: all of a clean ring's */
 };
 
 /* The checks and the area; the crossing as well where it is asked for, since it takes a number of steps that grows with the square of the count. */

@@ -81,3 +81,19 @@ size_t random_ring(int64_t *numbers, size_t most) {
     if (one_in(2)) move(numbers, count, random_between(-LARGEST / 2, LARGEST / 2), random_between(-LARGEST / 2, LARGEST / 2));
     return one_in(4) ? damage(numbers, count, most) : count;
 }
+
+/* Corners on a circle, one of them pulled across a side that is no neighbour, or left where it is: 16 to 300 corners, now and then all 1,024. */
+size_t pulled_ring(int64_t *numbers) {
+    size_t corners = one_in(50) ? 1024 : 16 + random_below(285), from = random_below(corners);
+    for (size_t i = 0; i < corners; i++) {
+        double direction = 6.283185307179586 * (double)((i + from) % corners) / (double)corners;
+        numbers[2 * i] = (int64_t)(9000000 * cos(direction));
+        numbers[2 * i + 1] = (int64_t)(9000000 * sin(direction));
+    }
+    size_t pulled = random_below(corners), side = (pulled + 2 + random_below(corners - 4)) % corners, next = (side + 1) % corners;
+    if (one_in(4)) return 2 * corners;
+    /* just past the middle of the side, seen from the circle's own middle */
+    numbers[2 * pulled] = (numbers[2 * side] + numbers[2 * next]) / 2 / 1000 * 1100;
+    numbers[2 * pulled + 1] = (numbers[2 * side + 1] + numbers[2 * next + 1]) / 2 / 1000 * 1100;
+    return 2 * corners;
+}

@@ -41,7 +41,7 @@ module _ (offset count size : ℕ) where
   line-is (case.Nozzle X Y p) s = refl
   line-is (case.Point X Y k c) s = refl
   line-is (case.Refused n) s = refl
-  line-is (case.Crossed i j) s = refl
+  line-is (case.Crossed i j looked) s = refl
 
   next-is : (a : answers.Answer) (s : State)
       → progress-by (refuses a) s ((offset + size) % 2 ^ 64) ((count + 1) % 2 ^ 64) [] ≡ advanced offset count size (paper a s) .next
@@ -51,7 +51,7 @@ module _ (offset count size : ℕ) where
   next-is (case.Nozzle X Y p) s = refl
   next-is (case.Point X Y k c) s = refl
   next-is (case.Refused n) s = refl
-  next-is (case.Crossed i j) s = refl
+  next-is (case.Crossed i j looked) s = refl
 
 -- the answer tells whether the record is refused
 refuses-is : (a : answers.Answer) (s : State) → refuses a ≡ is-refused (paper a s)
@@ -60,7 +60,7 @@ refuses-is (case.Field c n k) s = refl
 refuses-is (case.Nozzle X Y p) s = refl
 refuses-is (case.Point X Y k c) s = refl
 refuses-is (case.Refused n) s = refl
-refuses-is (case.Crossed i j) s = refl
+refuses-is (case.Crossed i j looked) s = refl
 
 module _ (run : Run) (item : records.Record) (size : ℕ) where
   placed : {p : Place} → p .offset ≡ (run .place .offset + size) % 2 ^ 64 → p .records ≡ (run .place .records + 1) % 2 ^ 64 → p ≡ place-after (run .place) size

@@ -40,7 +40,7 @@ joined (c ∷ cs) = c ++ joined cs
 unfoldable pub advanced : ℕ → ℕ → ℕ → rules.Answer Step → Took
 advanced offset count size (answered d) = record { next = running (d .state) ((offset + size) % 2 ^ 64) ((count + 1) % 2 ^ 64) []; printed = d .printed }
 advanced offset count size (refused n) = record { next = stopped; printed = refusal-text n offset }
-advanced offset count size (crossed-at i j) = record { next = stopped; printed = crossed-text offset i j }
+advanced offset count size (crossed-at pair) = record { next = stopped; printed = crossed-text offset (pair .low) (pair .high) }
 
 module _ (forward-at : ℕ → ℤ → ℤ → rules.Answer points.Point) where
   -- the bytes of a record so far: whole, or of no kind; where its body is cut off, more bytes are awaited

@@ -35,7 +35,7 @@ refuses (case.Field c n a) = false
 refuses (case.Nozzle X Y p) = false
 refuses (case.Point X Y s c) = false
 refuses (case.Refused n) = true
-refuses (case.Crossed i j) = true
+refuses (case.Crossed i j looked) = true
 
 -- how far a run has come
 abbrev pub progress : Run → Progress
@@ -58,7 +58,7 @@ place-after p size = record { offset = (p .offset + size) % 2 ^ 64; records = (p
 abbrev pub is-refused : rules.Answer Step → Bool
 is-refused (answered d) = false
 is-refused (refused n) = true
-is-refused (crossed-at i j) = true
+is-refused (crossed-at pair) = true
 
 -- a whole record of `size` bytes: the job that it leaves (the one before it, where it is refused), and no bytes held
 abbrev pub run-after : Run → records.Record → ℕ → Run

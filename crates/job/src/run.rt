@@ -111,7 +111,7 @@ fn refuses(answer: Answer) -> bool
         Answer::Nozzle(_, _, _) => false,
         Answer::Point(_, _, _, _) => false,
         Answer::Refused(_) => true,
-        Answer::Crossed(_, _) => true,
+        Answer::Crossed(_, _, _) => true,
     }
 }
 

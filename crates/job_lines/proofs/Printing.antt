@@ -62,5 +62,5 @@ module _ {a : answers.Answer} (o : ℕ) {l : Line} where
   pub refused-said : {n : ℕ} → a ≡ case.Refused n → Says (refusal-text n o) l → Says (printed-at a o) l
   refused-said e s = rw e s
 
-  pub crossed-said : {i j : ℕ} → a ≡ case.Crossed i j → Says (crossed-text o i j) l → Says (printed-at a o) l
+  pub crossed-said : {i j looked : ℕ} → a ≡ case.Crossed i j looked → Says (crossed-text o i j) l → Says (printed-at a o) l
   crossed-said e s = rw e s

@@ -23,7 +23,7 @@ printed-at (case.Field c n a) offset = line (case.Field c n a)
 printed-at (case.Nozzle X Y p) offset = line (case.Nozzle X Y p)
 printed-at (case.Point X Y s c) offset = line (case.Point X Y s c)
 printed-at (case.Refused n) offset = refusal-text n offset
-printed-at (case.Crossed i j) offset = crossed-text offset i j
+printed-at (case.Crossed i j looked) offset = crossed-text offset i j
 
 -- a line of at most 128 bytes, and its text
 pub record Says (words : List ℕ) (l : Line) : Type 0 where

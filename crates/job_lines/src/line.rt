@@ -18,7 +18,7 @@ pub fn answer_line(answer: Answer, offset: u64) -> Line
         Answer::Nozzle(x, y, position) => nozzle_line(x, y, position),
         Answer::Point(x, y, scale, convergence) => point_line(x, y, scale, convergence),
         Answer::Refused(n) => refusal_line(n, offset),
-        Answer::Crossed(low, high) => crossed_line(offset, low, high),
+        Answer::Crossed(low, high, _) => crossed_line(offset, low, high),
     }
 }
 

@@ -15,7 +15,7 @@ use mir.Val.{toZ, ofZ, SFits}
 use mir.Facts.{toZ-ofZ}
 use Rattle.rules.specs.Rings.{Corner, area2}
 use Rattle.rules.specs.Points.{above}
-use Rattle.rules.specs.Refusals.{Answer, answered, refused, crossed-at, Passed, _>>=_, _>>_, _if_, corner-count, span-too-large}
+use Rattle.rules.specs.Refusals.{Answer, answered, refused, crossed-at, _>>=_, _>>_, _if_, corner-count, span-too-large}
 use Rattle.rules.specs.RingAnswers.{corners, count-bad, number-bad, corner-bad, any-bad, span-bad, not-crossed, ring-checks, area-answer, crossing-answer, Nozzle, nozzle}
 use Rattle.rings.specs.declared.CrossingAnswer as crossings
 use Rattle.rings.specs.declared.CrossingAnswer.the-variants as crossing-case
@@ -173,14 +173,14 @@ part n l e = ap (λ (k : ℕ). take k l) (same n) ∙ e
 
 -- ---- the crossing test's cases
 module _ (numbers : List ℤ) {c : crossings.CrossingAnswer} (told : crossing-paper c ≡ crossing-answer numbers) where
-  pub clean-judged : (p : judgement.Judged) → c ≡ crossing-case.Clean → judged-paper p ≡ area-answer numbers → judged-paper p ≡ judged-flat numbers
+  pub clean-judged : (p : judgement.Judged) {looked : ℕ} → c ≡ crossing-case.Clean looked → judged-paper p ≡ area-answer numbers → judged-paper p ≡ judged-flat numbers
   unfolding judged-flat
-  clean-judged p e h = h ∙ ap (λ (x : Answer Passed). x >> area-answer numbers) (sym (ap crossing-paper e) ∙ told)
+  clean-judged p e h = h ∙ ap (λ (x : Answer ℕ). x >> area-answer numbers) (sym (ap crossing-paper e) ∙ told)
 
-  pub crossed-judged : {i j : ℕ} → c ≡ crossing-case.Crossed i j → crossed-at i j ≡ judged-flat numbers
+  pub crossed-judged : {i j looked : ℕ} → c ≡ crossing-case.Crossed i j looked → crossed-at (record { low = i; high = j; looked-at = looked }) ≡ judged-flat numbers
   unfolding judged-flat
-  crossed-judged e = ap (λ (x : Answer Passed). x >> area-answer numbers) (sym (ap crossing-paper e) ∙ told)
+  crossed-judged e = ap (λ (x : Answer ℕ). x >> area-answer numbers) (sym (ap crossing-paper e) ∙ told)
 
   pub refused-judged : {n : ℕ} → c ≡ crossing-case.Refused n → refused n ≡ judged-flat numbers
   unfolding judged-flat
-  refused-judged e = ap (λ (x : Answer Passed). x >> area-answer numbers) (sym (ap crossing-paper e) ∙ told)
+  refused-judged e = ap (λ (x : Answer ℕ). x >> area-answer numbers) (sym (ap crossing-paper e) ∙ told)

@@ -14,7 +14,7 @@ use mir.Val.{toZ, ofZ, SFits}
 use mir.Facts.{toZ-ofZ}
 use lib.ListN.{length, set}
 use Rattle.rules.specs.Refusals as rules
-use Rattle.rules.specs.Refusals.{answered, refused, crossed-at, Passed, passed, _>>_, _if_, corner-count, corner-number, span-too-large, out-of-place}
+use Rattle.rules.specs.Refusals.{answered, refused, crossed-at, _>>_, _if_, corner-count, corner-number, span-too-large, out-of-place}
 use Rattle.rules.specs.Points as points
 use Rattle.rules.specs.Rings as ring
 use Rattle.rules.specs.RingAnswers as nozzles
@@ -61,12 +61,12 @@ read-two F I x y f g h = rw (toZ-ofZ f, toZ-ofZ g) at h
 query-leaves : (s : rules.Answer Step) (X Y : ℤ) (j : Job) → left s (record-case.Query X Y) j ≡ j
 query-leaves (answered d) X Y j = refl
 query-leaves (refused n) X Y j = refl
-query-leaves (crossed-at i l) X Y j = refl
+query-leaves (crossed-at pair) X Y j = refl
 
 point-leaves : (s : rules.Answer Step) (c : ℕ) (B L : ℤ) (j : Job) → left s (record-case.Point c B L) j ≡ j
 point-leaves (answered d) c B L j = refl
 point-leaves (refused n) c B L j = refl
-point-leaves (crossed-at i l) c B L j = refl
+point-leaves (crossed-at pair) c B L j = refl
 
 -- ---- a record out of its place, and those that any state without a gathered field takes alike
 module _ (f : ℕ → ℤ → ℤ → rules.Answer points.Point) where
@@ -161,9 +161,9 @@ module _ (f : ℕ → ℤ → ℤ → rules.Answer points.Point) where
     open-query located-case.Border false true e = absurd (let z : _≡_ {A = ℕ} 0 1 = cc in omega arith)
     open-query located-case.Shut false true e = absurd (let z : _≡_ {A = ℕ} 0 1 = cc in omega arith)
     open-query (located-case.Refused n) false true e = refl
-    open-query (located-case.Crossed i l) false false e = absurd (let z : _≡_ {A = ℕ} 0 1 = cc in omega arith)
-    open-query (located-case.Crossed i l) true c e = absurd (let z : _≡_ {A = ℕ} 0 1 = cc in omega arith)
-    open-query (located-case.Crossed i l) false true e = absurd (let z : _≡_ {A = ℕ} 0 1 = cc in omega arith)
+    open-query (located-case.Crossed i l looked) false false e = absurd (let z : _≡_ {A = ℕ} 0 1 = cc in omega arith)
+    open-query (located-case.Crossed i l looked) true c e = absurd (let z : _≡_ {A = ℕ} 0 1 = cc in omega arith)
+    open-query (located-case.Crossed i l looked) false true e = absurd (let z : _≡_ {A = ℕ} 0 1 = cc in omega arith)
 
   pub accepted-query : (j : Job) (X Y : ℤ) (l : place.NozzleAnswer) (a : answers.Answer) (n : ℕ) → j .phase ≡ Accepted → length (j .corners) ≡ 1024 → n ≡ counted (j .count)
       → nozzle-paper l ≡ located (ring-of n (j .corners)) (at X Y) → a ≡ query-said l X Y
@@ -243,44 +243,44 @@ module _ (j : Job) (gathers : j .phase ≡ Gathering) (long : length (j .corners
 
 -- ---- kind 3, of a field that is gathered
 module _ (c n : ℕ) (r : List ring.Corner) (count : length r ≡ n) where
-  closing : Bool → Bool → rules.Answer Passed → rules.Answer Step
+  closing : Bool → Bool → rules.Answer ℕ → rules.Answer Step
   closing a b x = do
     corner-count if a
     span-too-large if b
     x
     print (accepted r) (line (Field c (length r) (ring.area2 r)))
 
-  judging : Bool → Bool → rules.Answer Passed → rules.Answer ℤ
+  judging : Bool → Bool → rules.Answer ℕ → rules.Answer ℤ
   judging a b x = do
     corner-count if a
     span-too-large if b
     x
     answered (ring.area2 r)
 
-  accept-by : (k : ℤ) (a b : Bool) (x : rules.Answer Passed) → answered k ≡ judging a b x
+  accept-by : (k : ℤ) (a b : Bool) (x : rules.Answer ℕ) → answered k ≡ judging a b x
       → print (chosen (a || b) no-field (accepted r)) (line (Field c n k)) ≡ closing a b x
   unfolding closing judging
-  accept-by k false false (answered passed) e = let z : k ≡ ring.area2 r = cc in rw (z, ← count) refl
+  accept-by k false false (answered looked) e = let z : k ≡ ring.area2 r = cc in rw (z, ← count) refl
   accept-by k false false (refused m) e = absurd (let z : _≡_ {A = ℕ} 0 1 = cc in omega arith)
-  accept-by k false false (crossed-at i l) e = absurd (let z : _≡_ {A = ℕ} 0 1 = cc in omega arith)
+  accept-by k false false (crossed-at pair) e = absurd (let z : _≡_ {A = ℕ} 0 1 = cc in omega arith)
   accept-by k false true x e = absurd (let z : _≡_ {A = ℕ} 0 1 = cc in omega arith)
   accept-by k true b x e = absurd (let z : _≡_ {A = ℕ} 0 1 = cc in omega arith)
 
-  refuse-by : (k : ℕ) (a b : Bool) (x : rules.Answer Passed) → refused k ≡ judging a b x → refused k ≡ closing a b x
+  refuse-by : (k : ℕ) (a b : Bool) (x : rules.Answer ℕ) → refused k ≡ judging a b x → refused k ≡ closing a b x
   unfolding closing judging
-  refuse-by k false false (answered passed) e = absurd (let z : _≡_ {A = ℕ} 0 1 = cc in omega arith)
+  refuse-by k false false (answered looked) e = absurd (let z : _≡_ {A = ℕ} 0 1 = cc in omega arith)
   refuse-by k false false (refused m) e = let z : k ≡ m = cc in ap (λ (n : ℕ). refused n) z
-  refuse-by k false false (crossed-at i l) e = absurd (let z : _≡_ {A = ℕ} 0 1 = cc in omega arith)
+  refuse-by k false false (crossed-at pair) e = absurd (let z : _≡_ {A = ℕ} 0 1 = cc in omega arith)
   refuse-by k false true x e = let z : k ≡ span-too-large = cc in ap (λ (n : ℕ). refused n) z
   refuse-by k true b x e = let z : k ≡ corner-count = cc in ap (λ (n : ℕ). refused n) z
 
-  cross-by : (i l : ℕ) (a b : Bool) (x : rules.Answer Passed) → crossed-at i l ≡ judging a b x → crossed-at i l ≡ closing a b x
+  cross-by : (pair : rules.CrossedPair) (a b : Bool) (x : rules.Answer ℕ) → crossed-at pair ≡ judging a b x → crossed-at pair ≡ closing a b x
   unfolding closing judging
-  cross-by i l false false (answered passed) e = absurd (let z : _≡_ {A = ℕ} 0 1 = cc in omega arith)
-  cross-by i l false false (refused m) e = absurd (let z : _≡_ {A = ℕ} 0 1 = cc in omega arith)
-  cross-by i l false false (crossed-at i′ l′) e = let y : i ≡ i′ = cc in let z : l ≡ l′ = cc in rw (y, z) refl
-  cross-by i l false true x e = absurd (let z : _≡_ {A = ℕ} 0 1 = cc in omega arith)
-  cross-by i l true b x e = absurd (let z : _≡_ {A = ℕ} 0 1 = cc in omega arith)
+  cross-by pair false false (answered looked) e = absurd (let z : _≡_ {A = ℕ} 0 1 = cc in omega arith)
+  cross-by pair false false (refused m) e = absurd (let z : _≡_ {A = ℕ} 0 1 = cc in omega arith)
+  cross-by pair false false (crossed-at other) e = let z : pair ≡ other = cc in rw z refl
+  cross-by pair false true x e = absurd (let z : _≡_ {A = ℕ} 0 1 = cc in omega arith)
+  cross-by pair true b x e = absurd (let z : _≡_ {A = ℕ} 0 1 = cc in omega arith)
 
 module _ (j : Job) (long : length (j .corners) ≡ 1024) (p : judgement.Judged) (n : ℕ) (all : n ≡ counted (j .count))
     (told : judged-paper p ≡ judged (ring-of n (j .corners))) where
@@ -316,11 +316,12 @@ module _ (j : Job) (long : length (j .corners) ≡ 1024) (p : judgement.Judged) 
       let s = refuse-by (j .code) n r ring-long k (count-bad r) (span-bad r) (not-crossed r) (ap judged-paper (sym e) ∙ at-ring) in
       record { says = s; leaves = ap (λ (s : rules.Answer Step). left s record-case.Close j) s }
 
-  pub crosses : (i l : ℕ) → p ≡ judged-case.Crossed i l → Stepping (closed (j .code) (ring-of (j .count) (j .corners))) record-case.Close j (record { job = j; answer = Crossed i l })
+  pub crosses : (i l looked : ℕ) → p ≡ judged-case.Crossed i l looked
+      → Stepping (closed (j .code) (ring-of (j .count) (j .corners))) record-case.Close j (record { job = j; answer = Crossed i l looked })
   unfolding closed judged closing judging line
-  crosses i l e =
+  crosses i l looked e =
       let r = ring-of (j .count) (j .corners) in
-      let s = cross-by (j .code) n r ring-long i l (count-bad r) (span-bad r) (not-crossed r) (ap judged-paper (sym e) ∙ at-ring) in
+      let s = cross-by (j .code) n r ring-long (record { low = i; high = l; looked-at = looked }) (count-bad r) (span-bad r) (not-crossed r) (ap judged-paper (sym e) ∙ at-ring) in
       record { says = s; leaves = ap (λ (s : rules.Answer Step). left s record-case.Close j) s }
 
 -- ---- kind 5

@@ -50,7 +50,7 @@ line (Field c n a) = text "field " ++ decimal c ++ text " corners " ++ decimal n
 line (Nozzle X Y p) = text "nozzle " ++ whole X ++ text " " ++ whole Y ++ text " " ++ word p ++ text "\n"
 line (Point X Y s c) = text "point " ++ whole X ++ text " " ++ whole Y ++ text " " ++ whole s ++ text " " ++ whole c ++ text "\n"
 line (Refused n) = []
-line (Crossed i j) = []
+line (Crossed i j looked) = []
 
 -- the paper's answer: the state after the record with its line, or the refusal
 abbrev pub paper : answers.Answer → State → rules.Answer Step
@@ -59,13 +59,13 @@ paper (Field c n a) s = print s (line (Field c n a))
 paper (Nozzle X Y p) s = print s (line (Nozzle X Y p))
 paper (Point X Y k c) s = print s (line (Point X Y k c))
 paper (Refused n) s = refused n
-paper (Crossed i j) s = crossed-at i j
+paper (Crossed i j looked) s = crossed-at (record { low = i; high = j; looked-at = looked })
 
 abbrev pub query-said : place.NozzleAnswer → ℤ → ℤ → answers.Answer
 query-said located-case.Open X Y = Nozzle X Y Open
 query-said located-case.Border X Y = Nozzle X Y Border
 query-said located-case.Shut X Y = Nozzle X Y Shut
-query-said (located-case.Crossed i j) X Y = Refused out-of-place
+query-said (located-case.Crossed i j looked) X Y = Refused out-of-place
 query-said (located-case.Refused n) X Y = Refused out-of-place
 
 abbrev pub point-said : projected.ForwardAnswer → answers.Answer
@@ -113,7 +113,7 @@ after-record (record-case.Point c B L) j = j
 abbrev pub left : rules.Answer Step → records.Record → Job → Job
 left (rules.answered d) i j = after-record i j
 left (refused n) i j = j
-left (crossed-at k l) i j = j
+left (crossed-at pair) i j = j
 
 -- what a record makes of a job, by the rules' answer `s` to it: their state and line, or their refusal; and the job that comes back
 pub record Stepping (s : rules.Answer Step) (i : records.Record) (j : Job) (t : Taken) : Type 0 where

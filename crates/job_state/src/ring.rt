@@ -39,11 +39,11 @@ fn flatten(corners: [Corner; 1024], count: usize) -> [i64; 2048]
     numbers
 }
 
-// A ring that is closed: its doubled area, or the refusal.
+// A ring that is closed: its doubled area, or the refusal, a crossed ring's with its first pair of edges and the pairs looked at.
 pub enum Judged {
     Area(i64),
     Refused(u8),
-    Crossed(u64, u64),
+    Crossed(u64, u64, u64),
 }
 
 // The first `count` corners as a ring that is closed.
@@ -71,8 +71,8 @@ fn judge_flat(numbers: &[i64]) -> Judged
 {
     let crossing = rings::crossing(numbers);
     match crossing {
-        CrossingAnswer::Clean => judge_area(numbers),
-        CrossingAnswer::Crossed(low, high) => Judged::Crossed(low, high),
+        CrossingAnswer::Clean(_) => judge_area(numbers),
+        CrossingAnswer::Crossed(low, high, looked) => Judged::Crossed(low, high, looked),
         CrossingAnswer::Refused(n) => Judged::Refused(n),
     }
 }

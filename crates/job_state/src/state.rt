@@ -44,7 +44,7 @@ pub enum Answer {
     Nozzle(i64, i64, Position),
     Point(i64, i64, i64, i64),
     Refused(u8),
-    Crossed(u64, u64),
+    Crossed(u64, u64, u64),
 }
 
 pub struct Taken {
@@ -205,9 +205,9 @@ impl Job {
                 job: self,
                 answer: Answer::Refused(n),
             },
-            Judged::Crossed(low, high) => Taken {
+            Judged::Crossed(low, high, looked) => Taken {
                 job: self,
-                answer: Answer::Crossed(low, high),
+                answer: Answer::Crossed(low, high, looked),
             },
         }
     }
@@ -287,7 +287,7 @@ fn nozzle_answer(located: NozzleAnswer, x: i64, y: i64) -> Answer
         NozzleAnswer::Open => Answer::Nozzle(x, y, Position::Open),
         NozzleAnswer::Border => Answer::Nozzle(x, y, Position::Border),
         NozzleAnswer::Shut => Answer::Nozzle(x, y, Position::Shut),
-        NozzleAnswer::Crossed(_, _) => Answer::Refused(13),
+        NozzleAnswer::Crossed(_, _, _) => Answer::Refused(13),
         NozzleAnswer::Refused(_) => Answer::Refused(13),
     }
 }

@@ -33,7 +33,7 @@ parsed point-to-plane b = case.Point (code-of b) (number-at 1 b) (number-at 9 b)
 abbrev pub length-by : Answer Row → size.Length
 length-by (answered k) = Bytes (k .body-length)
 length-by (refused n) = Unknown
-length-by (crossed-at i j) = Unknown
+length-by (crossed-at pair) = Unknown
 
 unfoldable pub length-of : ℕ → size.Length
 length-of byte = length-by (find-kind byte kinds)
@@ -41,7 +41,7 @@ length-of byte = length-by (find-kind byte kinds)
 abbrev pub body-by : Answer Row → List ℕ → code.Record
 body-by (answered k) b = parsed (k .kind) b
 body-by (refused n) b = case.Close
-body-by (crossed-at i j) b = case.Close
+body-by (crossed-at pair) b = case.Close
 
 -- a body of a known kind, and as long as that kind's
 unfoldable pub body-of : ℕ → List ℕ → code.Record
@@ -58,7 +58,7 @@ framed at rest (answered k) =
       | false ↦ Whole (parsed (k .kind) (take (k .body-length) rest)) (record { at = at + 1 + k .body-length })
     ]
 framed at rest (refused n) = Refused n at
-framed at rest (crossed-at i j) = Refused ring-crossed at
+framed at rest (crossed-at pair) = Refused ring-crossed at
 
 abbrev pub read-first : ℕ → List ℕ → reader.Read
 read-first at [] = End

@@ -6,4 +6,4 @@ use Rattle.rules.specs.Refusals.{Answer, answered, refused, crossed-at, ring-cr
 abbrev pub refusal-of : {A : Type 0} → Answer A → ℕ
 refusal-of (answered a) = 0
 refusal-of (refused n) = n
-refusal-of (crossed-at i j) = ring-crossed
+refusal-of (crossed-at pair) = ring-crossed

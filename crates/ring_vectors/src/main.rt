@@ -17,17 +17,29 @@ fn put_refusal(line: &mut [u8], at: usize, refusal: u8) -> usize {
     vectors::put_natural(line, after, refusal as u64)
 }
 
-fn put_pair(line: &mut [u8], at: usize, low: u64, high: u64) -> usize {
+// How many pairs of edges were looked at.
+fn put_looked(line: &mut [u8], at: usize, looked: u64) -> usize {
+    let after = vectors::put(line, at, b" looked ");
+    vectors::put_natural(line, after, looked)
+}
+
+fn put_pair(line: &mut [u8], at: usize, low: u64, high: u64, looked: u64) -> usize {
     let first = vectors::put(line, at, b"crossed ");
     let between = vectors::put_natural(line, first, low);
     let second = vectors::put(line, between, b" ");
-    vectors::put_natural(line, second, high)
+    let after = vectors::put_natural(line, second, high);
+    put_looked(line, after, looked)
+}
+
+fn put_clean(line: &mut [u8], at: usize, looked: u64) -> usize {
+    let after = vectors::put(line, at, b"clean");
+    put_looked(line, after, looked)
 }
 
 fn put_crossing(line: &mut [u8], at: usize, answer: CrossingAnswer) -> usize {
     match answer {
-        CrossingAnswer::Clean => vectors::put(line, at, b"clean"),
-        CrossingAnswer::Crossed(low, high) => put_pair(line, at, low, high),
+        CrossingAnswer::Clean(looked) => put_clean(line, at, looked),
+        CrossingAnswer::Crossed(low, high, looked) => put_pair(line, at, low, high, looked),
         CrossingAnswer::Refused(refusal) => put_refusal(line, at, refusal),
     }
 }
@@ -37,7 +49,7 @@ fn put_nozzle(line: &mut [u8], at: usize, answer: NozzleAnswer) -> usize {
         NozzleAnswer::Open => vectors::put(line, at, b"open"),
         NozzleAnswer::Border => vectors::put(line, at, b"border"),
         NozzleAnswer::Shut => vectors::put(line, at, b"shut"),
-        NozzleAnswer::Crossed(low, high) => put_pair(line, at, low, high),
+        NozzleAnswer::Crossed(low, high, looked) => put_pair(line, at, low, high, looked),
         NozzleAnswer::Refused(refusal) => put_refusal(line, at, refusal),
     }
 }

@@ -1,8 +1,9 @@
 -- What the calls answer, as the paper's answers: one definition for each kind of answer gives the paper's number and values for each of its cases. Assumes nothing.
 use mathlib.Core.Path.{_≡_}
 use mathlib.Core.List.{List}
+use Prim.Native.Nat.{ℕ}
 use lib.IntN.{ℤ}
-use Rattle.rules.specs.Refusals.{Answer, answered, refused, crossed-at, Passed, passed, _>>=_}
+use Rattle.rules.specs.Refusals.{Answer, answered, refused, crossed-at, _>>=_}
 use Rattle.rules.specs.Rings.{Corner}
 use Rattle.rules.specs.RingAnswers.{Nozzle, open-nozzle, border-nozzle, shut-nozzle, nozzle, ring-checks, area-answer, turning-answer}
 use Rattle.rings.specs.declared.WholeAnswer.{WholeAnswer}
@@ -23,10 +24,10 @@ AreaCall numbers w = whole-paper w ≡ area-answer numbers
 abbrev pub TurningCall : List ℤ → Corner → WholeAnswer → Type 0
 TurningCall numbers p w = whole-paper w ≡ turning-answer numbers p
 
--- the crossing test
-abbrev pub crossing-paper : CrossingAnswer → Answer Passed
-crossing-paper CrossingAnswer.Clean = answered passed
-crossing-paper (CrossingAnswer.Crossed i j) = crossed-at i j
+-- the crossing test, with the pairs looked at
+abbrev pub crossing-paper : CrossingAnswer → Answer ℕ
+crossing-paper (CrossingAnswer.Clean looked) = answered looked
+crossing-paper (CrossingAnswer.Crossed i j looked) = crossed-at (record { low = i; high = j; looked-at = looked })
 crossing-paper (CrossingAnswer.Refused n) = refused n
 
 -- where a nozzle stands
@@ -34,7 +35,7 @@ abbrev pub nozzle-paper : NozzleAnswer → Answer Nozzle
 nozzle-paper NozzleAnswer.Open = answered open-nozzle
 nozzle-paper NozzleAnswer.Border = answered border-nozzle
 nozzle-paper NozzleAnswer.Shut = answered shut-nozzle
-nozzle-paper (NozzleAnswer.Crossed i j) = crossed-at i j
+nozzle-paper (NozzleAnswer.Crossed i j looked) = crossed-at (record { low = i; high = j; looked-at = looked })
 nozzle-paper (NozzleAnswer.Refused n) = refused n
 
 -- the nozzle's answer for a ring whose crossing was judged before: the checks 6, 7 and 8, and then border, open or shut

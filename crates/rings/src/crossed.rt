@@ -12,13 +12,15 @@ pub fn first_pair(corners: &[i64]) -> CrossingAnswer
     ensures { λ r. ⌜ crossing-paper r ≡ not-crossed (pairs (now (corners .entry))) ⌝ }
 {
     let last = corners.len() / 2 - 1;
+    let mut looked = 0;
     let mut k = 0;
     while k < last {
         let l = search::later(corners, k, last);
         if l <= last {
-            return CrossingAnswer::Crossed(k as u64, l as u64);
+            return CrossingAnswer::Crossed(k as u64, l as u64, (looked + (l - k)) as u64);
         }
+        looked += last - k;
         k += 1;
     }
-    CrossingAnswer::Clean
+    CrossingAnswer::Clean(looked as u64)
 }

@@ -16,19 +16,19 @@ pub enum WholeAnswer {
     Refused(u8),
 }
 
-// No crossed pair; or the first pair of edges, by number; or the number of a refusal.
+// No crossed pair, and the pairs of edges looked at; or the first crossed pair of edges, by number, and the pairs looked at; or the number of a refusal.
 pub enum CrossingAnswer {
-    Clean,
-    Crossed(u64, u64),
+    Clean(u64),
+    Crossed(u64, u64, u64),
     Refused(u8),
 }
 
-// Where a nozzle stands; or a refusal, a crossed ring's with its first pair of edges.
+// Where a nozzle stands; or a refusal, a crossed ring's with its first pair of edges and the pairs looked at.
 pub enum NozzleAnswer {
     Open,
     Border,
     Shut,
-    Crossed(u64, u64),
+    Crossed(u64, u64, u64),
     Refused(u8),
 }
 
@@ -72,7 +72,7 @@ pub fn position(corners: &[i64], px: i64, py: i64) -> NozzleAnswer
     standing::standing(corners, px, py)
 }
 
-// Whether two edges of the ring make a crossed pair, and which: the first in order of the lower edge, then of the higher.
+// Whether two edges of the ring make a crossed pair, and which: the first in order of the lower edge, then of the higher. Either way, how many pairs were looked at.
 pub fn crossing(corners: &[i64]) -> CrossingAnswer
     ensures { λ r. ⌜ crossing-paper r ≡ crossing-answer (now (corners .entry)) ⌝ }
 {
@@ -83,7 +83,7 @@ pub fn crossing(corners: &[i64]) -> CrossingAnswer
     crossed::first_pair(corners)
 }
 
-// Border, open or shut at a point; a crossed ring is refused with its first pair of edges.
+// Border, open or shut at a point; a crossed ring is refused with its first pair of edges and the pairs looked at.
 pub fn nozzle(corners: &[i64], px: i64, py: i64) -> NozzleAnswer
     ensures { λ r. ⌜ nozzle-paper r ≡ nozzle-answer (now (corners .entry)) (corner px py) ⌝ }
 {
@@ -92,8 +92,8 @@ pub fn nozzle(corners: &[i64], px: i64, py: i64) -> NozzleAnswer
         return NozzleAnswer::Refused(refusal);
     }
     match crossed::first_pair(corners) {
-        CrossingAnswer::Clean => standing::standing(corners, px, py),
-        CrossingAnswer::Crossed(low, high) => NozzleAnswer::Crossed(low, high),
+        CrossingAnswer::Clean(_) => standing::standing(corners, px, py),
+        CrossingAnswer::Crossed(low, high, looked) => NozzleAnswer::Crossed(low, high, looked),
         CrossingAnswer::Refused(number) => NozzleAnswer::Refused(number),
     }
 }

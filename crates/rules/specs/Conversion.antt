@@ -35,7 +35,7 @@ verdict a = a >>= λ l. answered passed
 abbrev pub held : Answer (List ℤ) → List ℤ → List ℤ
 held (answered l) output = l ++ drop (length l) output
 held (refused n) output = output
-held (crossed-at i j) output = output
+held (crossed-at pair) output = output
 
 unfoldable pub conversion : ℕ → ℕ → List ℤ → List ℤ → Answer (List ℤ)
 conversion = conversion-by plane

@@ -22,7 +22,7 @@ pub record Alike (s : System) (p q : Point) : Type 0 where
 abbrev pub Both : {A : Type 0} → (A → A → Type 0) → Answer A → Answer A → Type 0
 Both {A} alike (answered a) other = (b : A) × (other ≡ answered b) × alike a b
 Both alike (refused n) other = other ≡ refused n
-Both alike (crossed-at i j) other = other ≡ crossed-at i j
+Both alike (crossed-at pair) other = other ≡ crossed-at pair
 
 -- "Take any code of 1-14 and two points of the same latitude that lie equally far east and west of the central meridian, both accepted.": where one is, so is the other.
 -- The codes that have a system are those of 1 to 14 (`known` and `unknown` of Laws.Codes)

@@ -174,7 +174,7 @@ run forward-at (suc k) s offset count (byte ∷ rest) =
     elim (read forward-at s byte rest) [
       | answered d ↦ d .done .printed ++ run forward-at k (d .done .state) (offset + 1 + d .taken) (count + 1) (drop (d .taken) rest)
       | refused n ↦ refusal-line n offset ++ text "\n"
-      | crossed-at i j ↦ refusal-line ring-crossed offset ++ text " edges " ++ decimal i ++ text " " ++ decimal j ++ text "\n"
+      | crossed-at pair ↦ refusal-line ring-crossed offset ++ text " edges " ++ decimal (pair .low) ++ text " " ++ decimal (pair .high) ++ text "\n"
     ]
 
 unfoldable pub job-by : (ℕ → ℤ → ℤ → Answer Point) → List ℕ → List ℕ

@@ -29,6 +29,7 @@ pub mod Edges
 pub mod Meeting
 pub mod Folding
 pub mod Pairs
+pub mod Looked
 pub mod Tried
 pub mod Demand
 pub mod Numbers

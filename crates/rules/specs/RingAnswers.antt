@@ -7,9 +7,9 @@ use lib.Dec.{ltb}
 use lib.IntN.{ℤ, pos, _-ℤ_}
 use lib.Signed.{leZ, ltZ}
 use lib.ListN.{length}
-use Rattle.rules.specs.Refusals.{Answer, answered, refused, crossed-at, Passed, passed, _>>=_, _>>_, _if_, corner-count, corner-number, span-too-large}
+use Rattle.rules.specs.Refusals.{Answer, answered, refused, crossed-at, _>>=_, _>>_, _if_, corner-count, corner-number, span-too-large}
 use Rattle.rules.specs.Points.{above}
-use Rattle.rules.specs.Rings.{Corner, edges, area2, turning-number, border, isZero, EdgePair}
+use Rattle.rules.specs.Rings.{Corner, edges, area2, turning-number, border, isZero, EdgePair, edge-pairs, place}
 use Rattle.rules.specs.Crossing.{crossed}
 
 -- 6: "or a corner list of odd length"
@@ -69,9 +69,14 @@ ring-checks numbers = do
   span-too-large if span-bad r
   answered r
 
--- 9: "crossed", with its edges
-unfoldable pub not-crossed : List Corner → Answer Passed
-not-crossed r = elim (crossed r) [ none ↦ answered passed | some t ↦ crossed-at (t .low) (t .high) ]
+-- 9: "crossed", with its edges. 02 (vii): "The crossing test reports the pairs of edges looked at. For a clean ring of n corners it is n(n-1)/2" (all of them:
+-- Laws.Looked); "for a crossed one it is the place of the reported pair, from 1, in the order of document 01."
+abbrev pub looked-through : ℕ → Option EdgePair → Answer ℕ
+looked-through n none = answered (length (edge-pairs n))
+looked-through n (some t) = crossed-at (record { low = t .low; high = t .high; looked-at = place t (edge-pairs n) })
+
+unfoldable pub not-crossed : List Corner → Answer ℕ
+not-crossed r = looked-through (length r) (crossed r)
 
 -- ---- the answers. "Turning number and area answer for crossed rings too."
 unfoldable pub area-answer : List ℤ → Answer ℤ
@@ -84,8 +89,8 @@ turning-answer numbers p = do
   r ← ring-checks numbers
   answered (turning-number r p)
 
--- the crossing test: passed, or refused 9 with the first pair
-unfoldable pub crossing-answer : List ℤ → Answer Passed
+-- the crossing test: passed, with the pairs looked at, or refused 9 with the first pair and the pairs looked at
+unfoldable pub crossing-answer : List ℤ → Answer ℕ
 crossing-answer numbers = do
   r ← ring-checks numbers
   not-crossed r

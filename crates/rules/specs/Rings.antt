@@ -1,10 +1,10 @@
 -- 01, Rings: the rules, as the paper has them. The test that finds a crossed pair by computing is in Crossing, and Laws.Pairs shows that it answers by
 -- these rules. Assumes nothing.
 use mathlib.Core.Path.{_≡_}
-use mathlib.Core.Bool.{Bool, true, false, _&&_, _||_}
+use mathlib.Core.Bool.{Bool, true, false, cond, _&&_, _||_}
 use mathlib.Core.Logic.{_⊎_}
 use mathlib.Core.List.{List, [], _∷_, _++_}
-use Prim.Native.Nat.{ℕ, suc, _-_, _<_, _≤_}
+use Prim.Native.Nat.{ℕ, zero, suc, _-_, _<_, _≤_}
 use lib.IntN.{ℤ, pos, _+ℤ_, _-ℤ_, _*ℤ_}
 use lib.Signed.{leZ, ltZ}
 use lib.Dec.{eqb}
@@ -130,6 +130,26 @@ pub record First (r : List Corner) (t : EdgePair) : Type 0 where
   pub inside : t .high < length r
   pub here : Crossing (length r) (t .low) (t .high) (edge r (t .low)) (edge r (t .high))
   pub not-before : (k l : ℕ) → k < l → l < length r → ((k < t .low) ⊎ ((k ≡ t .low) × (l < t .high))) → ¬ Crossing (length r) k l (edge r k) (edge r l)
+
+-- ---- 02 (vii): "The crossing test reports the pairs of edges looked at."
+-- the pairs "in order of lower edge number, then higher". Edge k with the m edges from number l on:
+unfoldable pub pairs-with : ℕ → ℕ → ℕ → List EdgePair
+pairs-with k l zero = []
+pairs-with k l (suc m) = record { low = k; high = l } ∷ pairs-with k (suc l) m
+
+-- the m edges from number k on among themselves: the pairs of edge k, then those of the edges after it
+unfoldable pub pairs-from : ℕ → ℕ → List EdgePair
+pairs-from k zero = []
+pairs-from k (suc m) = pairs-with k (suc k) m ++ pairs-from (suc k) m
+
+-- all pairs of n edges
+unfoldable pub edge-pairs : ℕ → List EdgePair
+edge-pairs n = pairs-from 0 n
+
+-- "the place of the reported pair, from 1" (a pair that is not in the list has none, and nothing asks)
+unfoldable pub place : EdgePair → List EdgePair → ℕ
+place t [] = 0
+place t (u ∷ l) = cond (eqb (t .low) (u .low) && eqb (t .high) (u .high)) 1 (suc (place t l))
 
 -- ---- a ring cut from corner i to corner j, i before j (P11, demand 3): the corners from i to j, and the others with those two
 unfoldable pub inner : ℕ → ℕ → List Corner → List Corner

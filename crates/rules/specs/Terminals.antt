@@ -31,7 +31,7 @@ pub record One-fence (v : Unrounded.Forward) (p q : Point) : Type 0 where
 abbrev pub Alike-by : ℤ → ℤ → Answer System → Answer Point → Answer Point → Type 0
 Alike-by B L (answered s) a b = (p : Point) × (q : Point) × (a ≡ answered p) × (b ≡ answered q) × One-fence (Unrounded.forward s B L) p q
 Alike-by B L (refused n) a b = (a ≡ refused n) × (b ≡ refused n)
-Alike-by B L (crossed-at i j) a b = (a ≡ crossed-at i j) × (b ≡ crossed-at i j)
+Alike-by B L (crossed-at pair) a b = (a ≡ crossed-at pair) × (b ≡ crossed-at pair)
 
 -- of any two answers that the rules allow for one input
 abbrev pub Two-terminals : Type 0

@@ -18,7 +18,7 @@ ghost use Rattle.projection.specs.Inverse.{worked-inverse};
 ghost use Rattle.projection.specs.Worked.{worked-forward};
 ghost use Rattle.conversion.specs.Plane.{worked-plane};
 ghost use Rattle.conversion.specs.Ring.{worked-conversion};
-ghost use Rattle.terminal.specs.Lent.{lent, edges-lent, point-numbers, tick-numbers, plane-numbers, whole-number, nozzle-number};
+ghost use Rattle.terminal.specs.Lent.{lent, edges-lent, pairs-lent, looked-lent, point-numbers, tick-numbers, plane-numbers, whole-number, nozzle-number};
 
 // Latitude and longitude to plane: X, Y, scale and convergence.
 #[no_mangle]
@@ -127,23 +127,32 @@ pub extern "C" fn misgwalor_turning_number(
     }
 }
 
-// Whether a ring is crossed: 0 where it is clean, and 9 with its first pair of edges.
+// Whether a ring is crossed: 0 where it is clean, and 9 with its first pair of edges; with either, how many pairs of edges were looked at.
 #[no_mangle]
-pub extern "C" fn misgwalor_crossing(corners: &[i64], edges: &mut [i64; 2]) -> u8
+pub extern "C" fn misgwalor_crossing(
+    corners: &[i64],
+    edges: &mut [i64; 2],
+    pairs: &mut [i64; 1],
+) -> u8
     ensures number { λ r. ⌜ r ≡ refusal-of (crossing-answer (now (corners .entry))) ⌝ }
     ensures holds { λ r. ⌜ now (edges .exit) ≡ edges-lent (crossing-answer (now (corners .entry))) (now (edges .entry)) ⌝ }
+    ensures looked { λ r. ⌜ now (pairs .exit) ≡ looked-lent (crossing-answer (now (corners .entry))) (now (pairs .entry)) ⌝ }
 {
     match rings::crossing(corners) {
-        CrossingAnswer::Clean => 0,
+        CrossingAnswer::Clean(all) => {
+            *pairs = [all as i64];
+            0
+        }
         CrossingAnswer::Refused(n) => n,
-        CrossingAnswer::Crossed(low, high) => {
+        CrossingAnswer::Crossed(low, high, place) => {
             *edges = [low as i64, high as i64];
+            *pairs = [place as i64];
             9
         }
     }
 }
 
-// The nozzle at a point: 0 shut, 1 open, 2 border; a crossed ring is refused with its first pair of edges.
+// The nozzle at a point: 0 shut, 1 open, 2 border; a crossed ring is refused with its first pair of edges, and how many pairs of edges were looked at.
 #[no_mangle]
 pub extern "C" fn misgwalor_nozzle(
     corners: &[i64],
@@ -151,15 +160,18 @@ pub extern "C" fn misgwalor_nozzle(
     py: i64,
     answer: &mut [i64; 1],
     edges: &mut [i64; 2],
+    pairs: &mut [i64; 1],
 ) -> u8
     ensures number { λ r. ⌜ r ≡ refusal-of (nozzle-answer (now (corners .entry)) (corner px py)) ⌝ }
     ensures holds { λ r. ⌜ now (answer .exit) ≡ lent nozzle-number (nozzle-answer (now (corners .entry)) (corner px py)) (now (answer .entry)) ⌝ }
     ensures edges { λ r. ⌜ now (edges .exit) ≡ edges-lent (nozzle-answer (now (corners .entry)) (corner px py)) (now (edges .entry)) ⌝ }
+    ensures looked { λ r. ⌜ now (pairs .exit) ≡ pairs-lent (nozzle-answer (now (corners .entry)) (corner px py)) (now (pairs .entry)) ⌝ }
 {
     match rings::nozzle(corners, px, py) {
         NozzleAnswer::Refused(n) => n,
-        NozzleAnswer::Crossed(first, second) => {
+        NozzleAnswer::Crossed(first, second, looked) => {
             *edges = [first as i64, second as i64];
+            *pairs = [looked as i64];
             9
         }
         NozzleAnswer::Shut => {

@@ -23,9 +23,9 @@ plane-steps source target X Y = go (system source) (system target)
         ≡ ((a >>= λ s. b >>= λ t. (ellipsoids-differ if not (same-ellipsoid (s .ellipsoid) (t .ellipsoid)))) >> carried source target X Y)
     go (answered s) (answered t) = refl
     go (answered s) (refused n) = refl
-    go (answered s) (crossed-at i j) = refl
+    go (answered s) (crossed-at pair) = refl
     go (refused n) b = refl
-    go (crossed-at i j) b = refl
+    go (crossed-at pair) b = refl
 
 -- the steps, by what the checks and the inverse said
 pub codes-refused : (source target n : ℕ) (X Y : ℤ) → code-checks source target ≡ refused n → worked-plane source target X Y ≡ refused n

@@ -35,9 +35,9 @@ ring-steps source target numbers output = go (system source) (system target)
         ≡ ((a >>= λ s. b >>= λ t. (ellipsoids-differ if not (same-ellipsoid (s .ellipsoid) (t .ellipsoid)))) >> ring-moved source target numbers output)
     go (answered s) (answered t) = refl
     go (answered s) (refused n) = refl
-    go (answered s) (crossed-at i j) = refl
+    go (answered s) (crossed-at pair) = refl
     go (refused n) b = refl
-    go (crossed-at i j) b = refl
+    go (crossed-at pair) b = refl
 
 -- ---- the corners one after the other
 module _ (taken : ℤ → ℤ → Answer Corner) where
@@ -48,7 +48,7 @@ module _ (taken : ℤ → ℤ → Answer Corner) where
       go : (x : Answer (List ℤ)) → x ≡ (x >>= λ k. answered k)
       go (answered l) = refl
       go (refused n) = refl
-      go (crossed-at i j) = refl
+      go (crossed-at pair) = refl
   converted-append (c ∷ a) b =
       ap (λ x. taken (c .x) (c .y) >>= λ p. x >>= λ l. answered (p .x ∷ p .y ∷ l)) (converted-append a b)
       ∙ go (taken (c .x) (c .y)) (converted taken a) (converted taken b)
@@ -58,11 +58,11 @@ module _ (taken : ℤ → ℤ → Answer Corner) where
           ≡ ((x >>= λ p. y >>= λ l. answered (p .x ∷ p .y ∷ l)) >>= λ l. z >>= λ k. answered (l ++ k))
       go (answered p) (answered l) (answered k) = refl
       go (answered p) (answered l) (refused n) = refl
-      go (answered p) (answered l) (crossed-at i j) = refl
+      go (answered p) (answered l) (crossed-at pair) = refl
       go (answered p) (refused n) z = refl
-      go (answered p) (crossed-at i j) z = refl
+      go (answered p) (crossed-at pair) z = refl
       go (refused n) y z = refl
-      go (crossed-at i j) y z = refl
+      go (crossed-at pair) y z = refl
 
   -- the first m corners are taken, to `done`: the next one, taken to p or refused
   pub one-more : (r : List Corner) (m : ℕ) (done : List ℤ) (p : Corner) → m < length r → converted taken (take m r) ≡ answered done
@@ -177,9 +177,9 @@ module _ (source target : ℕ) (numbers output : List ℤ) where
           → (a >>= λ r. b >> converted (worked-plane source target) r) ≡ (a >>= λ r. b >> converted (carried source target) r)
       go (answered r) (answered x) = same-corners (worked-plane source target) (carried source target) r (λ X Y. codes-passed source target X Y e)
       go (answered r) (refused n) = refl
-      go (answered r) (crossed-at i j) = refl
+      go (answered r) (crossed-at pair) = refl
       go (refused n) b = refl
-      go (crossed-at i j) b = refl
+      go (crossed-at pair) b = refl
 
   -- and by what the ring's checks and the output's length said
   pub ring-refused : (n : ℕ) → ring-checks numbers ≡ refused n → ring-carried source target numbers output ≡ refused n

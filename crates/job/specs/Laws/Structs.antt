@@ -66,7 +66,7 @@ stopped-stays {run} {chunk} {out} {r} {out′} e f =
 refused-left : (s : rules.Answer Step) (i : records.Record) (j : Job) → is-refused s ≡ true → left s i j ≡ j
 refused-left (answered d) i j e = absurd (let z : _≡_ {A = ℕ} 0 1 = cc in omega arith)
 refused-left (refused n) i j e = refl
-refused-left (crossed-at k l) i j e = refl
+refused-left (crossed-at pair) i j e = refl
 
 stopped-by : (r : Run) (begun : Held) (found : reader.Read) → run-by r begun found .stopped ≡ true → run-by r begun found .job ≡ r .job
 stopped-by r begun (Whole item c) e = refused-left (stepped worked-forward (view (r .job)) item) item (r .job) e

@@ -49,7 +49,7 @@ module _ (f : ℕ → ℤ → ℤ → rules.Answer points.Point) where
   done-by : Row → rules.Answer Step → rules.Answer Read
   done-by k (answered d) = answered (record { taken = k .body-length; done = d })
   done-by k (refused n) = refused n
-  done-by k (crossed-at i j) = crossed-at i j
+  done-by k (crossed-at pair) = crossed-at pair
 
   read-none : (s : State) (byte : ℕ) (rest : List ℕ) → find-kind byte kinds ≡ refused kind-unknown → read f s byte rest ≡ refused kind-unknown
   unfolding read
@@ -69,7 +69,7 @@ module _ (f : ℕ → ℤ → ℤ → rules.Answer points.Point) where
         go : (a : rules.Answer Step) → (a >>= λ d. answered (record { taken = k .body-length; done = d })) ≡ done-by k a
         go (answered d) = refl
         go (refused n) = refl
-        go (crossed-at i j) = refl
+        go (crossed-at pair) = refl
 
   -- ---- what is printed from a record on, by the machine
   printed-from : Progress → List ℕ → List ℕ
@@ -142,7 +142,7 @@ module _ (f : ℕ → ℤ → ℤ → rules.Answer points.Point) where
             ∙ same (d .state) (offset + 1 + k .body-length) (count + 1) [] fresh (omega arith) (omega arith)
             ∙ ap (λ (t : List ℕ). from f (d .state) (offset + 1 + k .body-length) (count + 1) t) (sym (drop-at rest l (k .body-length) h)))
         by-answer (refused r) = ap (λ (t : List ℕ). refusal-text r offset ++ t) (stops l) ∙ append-nil (refusal-text r offset)
-        by-answer (crossed-at i j) = ap (λ (t : List ℕ). crossed-text offset i j ++ t) (stops l) ∙ append-nil (crossed-text offset i j)
+        by-answer (crossed-at pair) = ap (λ (t : List ℕ). crossed-text offset (pair .low) (pair .high) ++ t) (stops l) ∙ append-nil (crossed-text offset (pair .low) (pair .high))
 
         whole : Comes
         unfolding considered read-at

@@ -19,7 +19,7 @@ use Rattle.job_state.specs.Laws.Lines.{told-apart}
 state-of : State → rules.Answer Step → State
 state-of before (answered d) = d .state
 state-of before (refused n) = before
-state-of before (crossed-at i j) = before
+state-of before (crossed-at pair) = before
 
 -- the state after an answer, where a refusal left the job as it was
 state-is : (a : answers.Answer) (i : records.Record) (j k : Job) → k ≡ left (paper a (view k)) i j → view k ≡ state-of (view j) (paper a (view k))
@@ -29,7 +29,7 @@ state-is (Field c n m) i j k e = refl
 state-is (Nozzle X Y p) i j k e = refl
 state-is (Point X Y m c) i j k e = refl
 state-is (Refused n) i j k e = ap view e
-state-is (Crossed l m) i j k e = ap view e
+state-is (Crossed l m looked) i j k e = ap view e
 
 after-is : {s : rules.Answer Step} {i : records.Record} {j : Job} {t : Taken} → Stepping s i j t → view (t .job) ≡ state-of (view j) s
 after-is {s} {i} {j} {t} h =

@@ -136,7 +136,7 @@ line-told (c ∷ l) = chosen (eqb c 102) (field-told (rest l)) (chosen (eqb c 11
 told : rules.Answer Step → answers.Answer
 told (answered d) = line-told (d .printed)
 told (refused n) = Refused n
-told (crossed-at i j) = Crossed i j
+told (crossed-at pair) = Crossed (pair .low) (pair .high) (pair .looked-at)
 
 module _ {a b c d : List ℕ} (p : Above 32 a) (q : Above 32 b) (r : Above 32 c) (s : Above 32 d) where
   field-words : field-told (a ++ (text " corners " ++ (b ++ (text " area2 " ++ (c ++ text "\n"))))) ≡ Field (stands-for 0 a) (stands-for 0 b) (signed-number c)
@@ -175,7 +175,7 @@ told-back (Nozzle X Y p) s =
 told-back (Point X Y k c) s =
     ap line-told (point-line X Y k c) ∙ point-words (whole-word X) (whole-word Y) (whole-word k) (whole-word c) ∙ simp whole-back
 told-back (Refused n) s = refl
-told-back (Crossed i j) s = refl
+told-back (Crossed i j looked) s = refl
 
 -- two answers of which the paper has the same are the same
 pub told-apart : (a b : answers.Answer) (s t : State) → paper a s ≡ paper b t → a ≡ b

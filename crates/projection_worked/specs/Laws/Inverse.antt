@@ -70,7 +70,7 @@ module _ (code : ℕ) (X Y : ℤ) where
       let h = inverse-passed code s X Y e in
       (worked-ticks s X Y, refl, ticks-near s (system-millionths code s (h .0)) X Y (h .1))
   by-checks (refused n) e = refl
-  by-checks (crossed-at i j) e = refl
+  by-checks (crossed-at pair) e = refl
 
   -- every answer of the worked inverse is right
   pub inverse-right : Right-inverse code X Y (worked-inverse code X Y)

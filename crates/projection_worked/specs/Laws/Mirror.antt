@@ -58,7 +58,7 @@ module _ (code : ℕ) (s : System) (B L M : ℤ) (e : system code ≡ answered s
       let same : s ≡ t = cc in
       (worked-point t B (M -ℤ t .L0), refl, subst (λ t. Alike s (worked-point t B (L -ℤ t .L0)) (worked-point t B (M -ℤ t .L0))) same (points-alike (passed .1)))
   by-checks (refused n) c = refl
-  by-checks (crossed-at i j) c = refl
+  by-checks (crossed-at pair) c = refl
 
 pub east-and-west-alike : East-and-west-alike worked-forward
 unfolding worked-forward

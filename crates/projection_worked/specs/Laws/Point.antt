@@ -88,7 +88,7 @@ module _ (code : ℕ) (B L : ℤ) where
       let h = forward-passed code s B L e in
       (worked-point s B (L -ℤ s .L0), refl, point-near s (system-millionths code s (h .0)) B L (h .1) (within-reach code s L (h .0) (h .2)))
   by-checks (refused n) e = refl
-  by-checks (crossed-at i j) e = refl
+  by-checks (crossed-at pair) e = refl
 
   -- every answer of the worked forward is right
   pub forward-right : Right-forward code B L (worked-forward code B L)

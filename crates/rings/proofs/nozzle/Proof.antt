@@ -1,7 +1,8 @@
 -- Refused as the checks refuse, or for its first crossed pair; otherwise where the point stands. Assumes nothing.
 use mathlib.Core.Path.{_≡_, sym, _∙_, ap}
 use mathlib.Core.List.{List}
-use Rattle.rules.specs.Refusals.{Answer, answered, Passed, _>>_}
+use Prim.Native.Nat.{ℕ}
+use Rattle.rules.specs.Refusals.{Answer, answered, _>>_}
 use Rattle.rules.specs.Rings.{Corner}
 use Rattle.rules.specs.RingAnswers.{Nozzle, nozzle, not-crossed, nozzle-answer}
 use Rattle.rings.specs.Answers.{crossing-paper}
@@ -30,7 +31,7 @@ module _ (t : tie.After-first-pair) where
   judged : (f : CrossingAnswer) → t .first-pair .result ≡ f → crossing-paper f >> answered (nozzle r p) ≡ nozzle-answer (st .args .corners .now) p
   unfolding nozzle-answer
   judged f e =
-      ap (λ (a : Answer Passed). a >> answered (nozzle r p)) (sym (ap crossing-paper e) ∙ t .first-pair .ensures)
+      ap (λ (a : Answer ℕ). a >> answered (nozzle r p)) (sym (ap crossing-paper e) ∙ t .first-pair .ensures)
       ∙ answers (st .args .corners .now) (t .before .before .refusal .ensures) (asked p) (t .before .if1 .left)
 
 refusal-requires : tie.Need-refusal-requires
@@ -63,7 +64,7 @@ returns-2 c =
     let st = t .before .before .before in
     c .standing .ensures
     ∙ ap (λ (p : Corner). answered (nozzle (pairs (st .args .corners .now)) p)) (raw-is (st .fits .px) (st .fits .py))
-    ∙ judged t CrossingAnswer.Clean (c .before .enum-told .given .1)
+    ∙ judged t _ (c .before .enum-told .given .1)
 
 returns-3 : tie.Need-returns-3
 returns-3 c = judged (c .before .before .before) _ (c .before .low .given .1)

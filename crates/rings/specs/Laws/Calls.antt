@@ -4,7 +4,7 @@ use mathlib.Core.List.{List}
 use Prim.Native.Nat.{ℕ, _<_, _≤_}
 use native.Mathlib.Omega.{arith}
 use lib.IntN.{ℤ}
-use Rattle.rules.specs.Refusals.{Answer, answered, refused, crossed-at, Passed, passed, _>>=_, _>>_}
+use Rattle.rules.specs.Refusals.{Answer, answered, refused, crossed-at, _>>=_, _>>_}
 use Rattle.rules.specs.Rings.{Corner}
 use Rattle.rules.specs.RingAnswers.{Nozzle, nozzle, ring-checks, not-crossed, crossing-answer, nozzle-answer}
 use Rattle.rings.specs.Answers.{position-answer}
@@ -27,11 +27,11 @@ module _ (l : List ℤ) {n : ℕ} (e : n ≡ refusal-of (ring-checks l)) where
   accepts h = accepted l (passes h) .1
 
 -- `position` answers what `nozzle` answers, for a ring that the crossing test lets pass
-pub position-is-nozzle : (l : List ℤ) (p : Corner) → crossing-answer l ≡ answered passed → position-answer l p ≡ nozzle-answer l p
+pub position-is-nozzle : (l : List ℤ) (p : Corner) (looked : ℕ) → crossing-answer l ≡ answered looked → position-answer l p ≡ nozzle-answer l p
 unfolding crossing-answer position-answer nozzle-answer
-position-is-nozzle l p = go (ring-checks l)
+position-is-nozzle l p looked = go (ring-checks l)
   where
-    go : (a : Answer (List Corner)) → a >>= not-crossed ≡ answered passed → (a >>= λ r. answered (nozzle r p)) ≡ (a >>= λ r. not-crossed r >> answered (nozzle r p))
-    go (answered r) e = sym (ap (λ (b : Answer Passed). b >> answered (nozzle r p)) e)
+    go : (a : Answer (List Corner)) → a >>= not-crossed ≡ answered looked → (a >>= λ r. answered (nozzle r p)) ≡ (a >>= λ r. not-crossed r >> answered (nozzle r p))
+    go (answered r) e = sym (ap (λ (b : Answer ℕ). b >> answered (nozzle r p)) e)
     go (refused n) e = refl
-    go (crossed-at i j) e = refl
+    go (crossed-at pair) e = refl

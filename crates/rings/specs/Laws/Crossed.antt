@@ -1,30 +1,45 @@
--- The search for the first crossed pair, lower edge by lower edge. Assumes nothing.
-use mathlib.Core.Path.{_≡_, refl, sym, _∙_, ap}
+-- The search for the first crossed pair, lower edge by lower edge, and the pairs looked at. Assumes nothing.
+use mathlib.Core.Path.{_≡_, refl, sym, _∙_, ap, ap₂}
 use mathlib.Core.Bool.{Bool, true, false}
 use mathlib.Core.Option.{Option, none, some}
 use mathlib.Core.List.{List}
-use Prim.Native.Nat.{ℕ, suc, _+_, _<_, _≤_}
+use Prim.Native.Nat.{ℕ, suc, _+_, _-_, _<_, _≤_}
 use native.Mathlib.Numerals.{add-one}
 use native.Mathlib.Omega.{arith}
 use lib.ListN.{length, drop, drop-of-length-le}
 use lib.Seq.{drop-cons}
 use borrow.Author.Tests.{lt-ltb, le-ltb}
-use Rattle.rules.specs.Refusals.{answered, crossed-at, passed}
-use Rattle.rules.specs.Rings.{Corner, _to_, origin, edge, edges, EdgePair}
-use Rattle.rules.specs.RingAnswers.{not-crossed}
+use Rattle.rules.specs.Refusals.{answered, crossed-at}
+use Rattle.rules.specs.Rings.{Corner, _to_, origin, edge, edges, EdgePair, pairs-from, edge-pairs, place}
+use Rattle.rules.specs.RingAnswers.{looked-through, not-crossed}
 use Rattle.rules.specs.Crossing.{first-with, first-of, crossed}
 use Rattle.rules.specs.Laws.Edges.{length-edges}
+use Rattle.rules.specs.Laws.Looked.{pair-of, one-more, few, place-at}
+use Rattle.rules.specs.Laws.Pairs.{crossed-some}
 use Rattle.ring_pairs.specs.Crossings.{pair-at, pair-after}
 
--- the edges before edge k make no pair
-pub record Searched (r : List Corner) (k : ℕ) : Type 0 where
+-- the edges before edge k make no pair; `looked` pairs have one of them for their lower edge
+pub record Searched (r : List Corner) (k looked : ℕ) : Type 0 where
   pub left : crossed r ≡ first-of (length r) k (drop k (edges r))
+  pub counted : looked + length (edge-pairs (length r - k)) ≡ length (edge-pairs (length r))
 
-pub searched-start : (r : List Corner) → Searched r 0
+pub searched-start : (r : List Corner) → Searched r 0 0
 unfolding crossed
-searched-start r = record { left = refl }
+searched-start r = record { left = refl; counted = let e = ap (λ (n : ℕ). length (edge-pairs n)) (all (length r)) in omega arith }
+  where
+    all : (n : ℕ) → n - 0 ≡ n
+    all n = omega arith
 
-module _ {r : List Corner} {k : ℕ} (s : Searched r k) where
+-- one edge alone makes no pair
+none-left : length (edge-pairs 1) ≡ 0
+unfolding edge-pairs pairs-from
+none-left = one-more 0
+
+module _ {r : List Corner} {k looked : ℕ} (s : Searched r k looked) where
+  -- the count stays small
+  pub searched-few : length r ≤ 1024 → looked ≤ 523_776
+  searched-few h = let c = s .counted in let m = few (length r) h in omega arith
+
   either : Option EdgePair → Option EdgePair
   either o = elim o [ some t ↦ some t | none ↦ first-of (length r) (suc k) (drop (suc k) (edges r)) ]
 
@@ -32,24 +47,50 @@ module _ {r : List Corner} {k : ℕ} (s : Searched r k) where
   unfolding first-of either pair-after edge
   first h = s .left ∙ ap (first-of (length r) k) (drop-cons (edges r) k (origin to origin) (let e = length-edges r in omega arith))
 
-  pub searched-hit : (l : ℕ) → k < length r → l < length r → pair-at (length r) k l ≡ pair-after r k → crossed-at k l ≡ not-crossed r
-  unfolding either pair-at not-crossed
-  searched-hit l h g e = sym (ap (λ (o : Option EdgePair). elim o [ none ↦ answered passed | some t ↦ crossed-at (t .low) (t .high) ])
-      (first h ∙ ap either (sym e ∙ ap (λ (t : Bool). elim t [ true ↦ some (record { low = k; high = l }) | false ↦ none ]) (lt-ltb l (length r) g))))
+  module _ (l : ℕ) (h : k < length r) (e : pair-at (length r) k l ≡ pair-after r k) where
+    -- an edge l of the ring makes the first pair with edge k
+    module _ (g : l < length r) where
+      found : crossed r ≡ some (pair-of k l)
+      unfolding either pair-at
+      found = first h ∙ ap either (sym e ∙ ap (λ (t : Bool). elim t [ true ↦ some (pair-of k l) | false ↦ none ]) (lt-ltb l (length r) g))
 
-  pub searched-miss : (l : ℕ) → k < length r → length r ≤ l → pair-at (length r) k l ≡ pair-after r k → Searched r (k + 1)
-  unfolding either pair-at
-  searched-miss l h g e = record {
-    left = first h
-        ∙ ap either (sym e ∙ ap (λ (t : Bool). elim t [ true ↦ some (record { low = k; high = l }) | false ↦ none ]) (le-ltb l (length r) g))
-        ∙ ap (λ (i : ℕ). first-of (length r) i (drop i (edges r))) (sym (add-one k));
-  }
+      pub hit-order : k < l
+      hit-order = crossed-some r (pair-of k l) found .order
 
-  pub searched-end : k + 1 ≡ length r → answered passed ≡ not-crossed r
+      pub searched-hit : crossed-at (record { low = k; high = l; looked-at = looked + (l - k) }) ≡ not-crossed r
+      unfolding not-crossed
+      searched-hit = ap (λ (c : ℕ). crossed-at (record { low = k; high = l; looked-at = c })) place-is ∙ sym (ap (looked-through (length r)) found)
+        where
+          place-is : looked + (l - k) ≡ place (pair-of k l) (edge-pairs (length r))
+          place-is = let p = place-at (length r) k l hit-order g in let c = s .counted in omega arith
+
+    pub searched-miss : (last : ℕ) → last + 1 ≡ length r → length r ≤ l → Searched r (k + 1) (looked + (last - k))
+    unfolding either pair-at
+    searched-miss last n g = record {
+      left = first h
+          ∙ ap either (sym e ∙ ap (λ (t : Bool). elim t [ true ↦ some (record { low = k; high = l }) | false ↦ none ]) (le-ltb l (length r) g))
+          ∙ ap (λ (i : ℕ). first-of (length r) i (drop i (edges r))) (sym (add-one k));
+      counted =
+          let c = s .counted in
+          let o = one-more (last - k) in
+          let p : length (edge-pairs (suc (last - k))) ≡ length (edge-pairs (length r - k)) = ap (λ (n : ℕ). length (edge-pairs n)) (omega arith) in
+          let q : length (edge-pairs (last - k)) ≡ length (edge-pairs (length r - (k + 1))) = ap (λ (n : ℕ). length (edge-pairs n)) (omega arith) in
+          omega arith;
+    }
+
+  -- the last edge makes no pair with a later one
+  pub searched-end : k + 1 ≡ length r → answered looked ≡ not-crossed r
   unfolding either first-of first-with pair-after not-crossed
   searched-end h =
       let n : length (edges r) ≤ suc k = (let e = length-edges r in omega arith) in
-      sym (ap (λ (o : Option EdgePair). elim o [ none ↦ answered passed | some t ↦ crossed-at (t .low) (t .high) ])
+      ap answered all-looked
+      ∙ sym (ap (looked-through (length r))
       (first (omega arith)
       ∙ ap either (ap (first-with (length r) k (edge r k) (suc k)) (drop-of-length-le (edges r) n))
       ∙ ap (first-of (length r) (suc k)) (drop-of-length-le (edges r) n)))
+    where
+      all-looked : looked ≡ length (edge-pairs (length r))
+      all-looked =
+          let c = s .counted in
+          let e : length (edge-pairs (length r - k)) ≡ 0 = ap (λ (n : ℕ). length (edge-pairs n)) (omega arith) ∙ none-left in
+          omega arith

@@ -41,7 +41,7 @@ sound l r = from (corners l)
     from : (a : Answer (List Corner)) → (a >>= λ t. 6 if count-bad t >> (7 if any-bad t >> (8 if span-bad t >> answered t))) ≡ answered r → Sound r
     from (answered t) e = tests t (count-bad t) (any-bad t) (span-bad t) refl refl refl e
     from (refused n) e = absurd (let w : _≡_ {A = ℕ} 0 1 = cc e in omega arith)
-    from (crossed-at i j) e = absurd (let w : _≡_ {A = ℕ} 0 1 = cc e in omega arith)
+    from (crossed-at pair) e = absurd (let w : _≡_ {A = ℕ} 0 1 = cc e in omega arith)
 
 axis-within : (f : Corner → ℤ) (s r : List Corner) → Within s r → span (map f r) ≤ℤ pos 20_000_000 → span (map f s) ≤ℤ pos 20_000_000
 axis-within f s r w h = span-exact (map f s) 20_000_000 .1 λ y z m n. span-exact (map f r) 20_000_000 .0 h y z (moved y m) (moved z n)

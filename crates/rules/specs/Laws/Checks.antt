@@ -109,7 +109,7 @@ passed-3 : (a : Answer System) (s : System) (B L : ℤ)
     → (a >>= λ s. latitude-outside if latitude-bad B >> (longitude-outside if longitude-bad s L >> answered s)) ≡ answered s
     → (a ≡ answered s) × (latitude-bad B ≡ false) × (longitude-bad s L ≡ false)
 passed-3 (refused n) s B L e = absurd (let z : _≡_ {A = ℕ} 0 1 = cc in omega arith)
-passed-3 (crossed-at i j) s B L e = absurd (let z : _≡_ {A = ℕ} 0 1 = cc in omega arith)
+passed-3 (crossed-at pair) s B L e = absurd (let z : _≡_ {A = ℕ} 0 1 = cc in omega arith)
 passed-3 (answered r) s B L e = go (latitude-bad B) refl (longitude-bad r L) refl e
   where
     go : (b : Bool) → latitude-bad B ≡ b → (c : Bool) → longitude-bad r L ≡ c
@@ -124,7 +124,7 @@ forward-passed code s B L e = passed-3 (system code) s B L e
 
 passed-4 : (a : Answer System) (s : System) (X Y : ℤ) → (a >>= λ s. plane-outside if plane-bad s X Y >> answered s) ≡ answered s → (a ≡ answered s) × (plane-bad s X Y ≡ false)
 passed-4 (refused n) s X Y e = absurd (let z : _≡_ {A = ℕ} 0 1 = cc in omega arith)
-passed-4 (crossed-at i j) s X Y e = absurd (let z : _≡_ {A = ℕ} 0 1 = cc in omega arith)
+passed-4 (crossed-at pair) s X Y e = absurd (let z : _≡_ {A = ℕ} 0 1 = cc in omega arith)
 passed-4 (answered r) s X Y e = go (plane-bad r X Y) refl e
   where
     go : (b : Bool) → plane-bad r X Y ≡ b → (plane-outside if b >> answered r) ≡ answered s → (answered r ≡ answered s) × (plane-bad s X Y ≡ false)

@@ -99,7 +99,7 @@ module _ {forward-at : ℕ → ℤ → ℤ → Answer Point} {inverse-at : ℕ �
           let point-same : r .0 ≡ p = cc in
           no-side s B p (subst (λ q. Near-forward s (Unrounded.forward s B (s .L0)) q) point-same (subst (λ t. Near-forward t (Unrounded.forward t B (s .L0)) (r .0)) system-same (r .2)))
       go (refused n) c r = absurd (let z : _≡_ {A = ℕ} 0 1 = cc in omega arith)
-      go (crossed-at i j) c r = absurd (let z : _≡_ {A = ℕ} 0 1 = cc in omega arith)
+      go (crossed-at pair) c r = absurd (let z : _≡_ {A = ℕ} 0 1 = cc in omega arith)
 
   pub back-on-the-meridian : Back-on-the-meridian inverse-at
   back-on-the-meridian code s X u e f = go (inverse-checks code X (offset-Y s)) refl (right .inverse-right code X (offset-Y s))
@@ -111,4 +111,4 @@ module _ {forward-at : ℕ → ℤ → ℤ → Answer Point} {inverse-at : ℕ �
           let ticks-same = as-judged t (r .0) u (sym (r .1) ∙ f) in
           no-side-back s X u (subst (λ v. Near-inverse s (Unrounded.inverse s X (offset-Y s)) v) ticks-same (subst (λ t. Near-inverse t (Unrounded.inverse t X (offset-Y s)) (r .0)) system-same (r .2)))
       go (refused n) c r = absurd (let z : _≡_ {A = ℕ} 0 1 = cc in omega arith)
-      go (crossed-at i j) c r = absurd (let z : _≡_ {A = ℕ} 0 1 = cc in omega arith)
+      go (crossed-at pair) c r = absurd (let z : _≡_ {A = ℕ} 0 1 = cc in omega arith)

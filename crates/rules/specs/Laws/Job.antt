@@ -23,7 +23,7 @@ module _ (f : ℕ → ℤ → ℤ → Answer Point) where
       elim a [
         | answered d ↦ d .done .printed ++ rest-of (d .done .state) (offset + 1 + d .taken) (count + 1) (drop (d .taken) rest)
         | refused n ↦ refusal-line n offset ++ text "\n"
-        | crossed-at i j ↦ refusal-line ring-crossed offset ++ text " edges " ++ decimal i ++ text " " ++ decimal j ++ text "\n"
+        | crossed-at pair ↦ refusal-line ring-crossed offset ++ text " edges " ++ decimal (pair .low) ++ text " " ++ decimal (pair .high) ++ text "\n"
       ]
 
   same-after : (g h : State → ℕ → ℕ → List ℕ → List ℕ) (offset count : ℕ) (rest : List ℕ)
@@ -31,7 +31,7 @@ module _ (f : ℕ → ℤ → ℤ → Answer Point) where
       → (a : Answer Read) → after g offset count rest a ≡ after h offset count rest a
   same-after g h offset count rest e (answered d) = ap (λ (l : List ℕ). d .done .printed ++ l) (e (d .done .state) (offset + 1 + d .taken) (count + 1) (d .taken))
   same-after g h offset count rest e (refused n) = refl
-  same-after g h offset count rest e (crossed-at i j) = refl
+  same-after g h offset count rest e (crossed-at pair) = refl
 
   -- two bounds above the length give the same
   enough : (k l : ℕ) (s : State) (offset count : ℕ) (file : List ℕ) → length file < k → length file < l → run f k s offset count file ≡ run f l s offset count file

@@ -13,7 +13,7 @@ use Rattle.rules.specs.Systems.{System, table, find, system, same-ellips
 use Rattle.rules.specs.Points.{Point, Ticks, latitude-bad, longitude-bad, plane-bad, forward-checks, inverse-checks, judged, Right-forward-by, Right-inverse-by, Right, plane-by}
 use Rattle.rules.specs.Rings.{Corner, EdgePair}
 use Rattle.rules.specs.Crossing.{crossed}
-use Rattle.rules.specs.RingAnswers.{corners, count-bad, number-bad, any-bad, span-bad, ring-checks, not-crossed, area-answer, turning-answer, crossing-answer, nozzle-answer}
+use Rattle.rules.specs.RingAnswers.{corners, count-bad, number-bad, any-bad, span-bad, ring-checks, looked-through, not-crossed, area-answer, turning-answer, crossing-answer, nozzle-answer}
 use Rattle.rules.specs.Conversion.{converted, conversion-by}
 use Rattle.rules.specs.JobFile.{Kind, begin-field, corner, close-ring, nozzle-query, point-to-plane, Row, kinds, find-kind, State, no-field, gathering, accepted, begun, cornered, closed, queried, pointed, code-of, number-at, step, read}
 
@@ -29,12 +29,12 @@ test n false h = tt
 bind : {A B : Type 0} (a : Answer A) (f : A → Answer B) → Listed a → ((x : A) → Listed (f x)) → Listed (a >>= f)
 bind (answered x) f h k = k x
 bind (refused n) f h k = h
-bind (crossed-at i j) f h k = tt
+bind (crossed-at pair) f h k = tt
 
-after : {B : Type 0} (a : Answer Passed) (b : Answer B) → Listed a → Listed b → Listed (a >> b)
+after : {A B : Type 0} (a : Answer A) (b : Answer B) → Listed a → Listed b → Listed (a >> b)
 after (answered x) b h k = k
 after (refused n) b h k = h
-after (crossed-at i j) b h k = tt
+after (crossed-at pair) b h k = tt
 
 -- ---- rings
 corners-listed : (numbers : List ℤ) → Listed (corners numbers)
@@ -53,7 +53,7 @@ crossing-listed : (r : List Corner) → Listed (not-crossed r)
 unfolding not-crossed
 crossing-listed r = go (crossed r)
   where
-    go : (t : Option EdgePair) → Listed {A = Passed} (elim t [ none ↦ answered passed | some t ↦ crossed-at (t .low) (t .high) ])
+    go : (t : Option EdgePair) → Listed (looked-through (length r) t)
     go none = tt
     go (some t) = tt
 
@@ -103,12 +103,12 @@ judged-listed s t = after (2 if latitude-bad (t .B)) _ (test 2 (latitude-bad (t 
 right-forward : (B L : ℤ) (checks : Answer System) (a : Answer Point) → Listed checks → Right-forward-by B L checks a → Listed a
 right-forward B L (answered s) a h r = subst Listed (sym (r .1)) tt
 right-forward B L (refused n) a h r = subst Listed (sym r) h
-right-forward B L (crossed-at i j) a h r = subst Listed (sym r) tt
+right-forward B L (crossed-at pair) a h r = subst Listed (sym r) tt
 
 right-inverse : (X Y : ℤ) (checks : Answer System) (a : Answer Ticks) → Listed checks → Right-inverse-by X Y checks a → Listed a
 right-inverse X Y (answered s) a h r = subst Listed (sym (r .1)) (judged-listed s (r .0))
 right-inverse X Y (refused n) a h r = subst Listed (sym r) h
-right-inverse X Y (crossed-at i j) a h r = subst Listed (sym r) tt
+right-inverse X Y (crossed-at pair) a h r = subst Listed (sym r) tt
 
 module _ {forward-at : ℕ → ℤ → ℤ → Answer Point} {inverse-at : ℕ → ℤ → ℤ → Answer Ticks} (right : Right forward-at inverse-at) where
   pub forward-listed : (code : ℕ) (B L : ℤ) → Listed (forward-at code B L)

@@ -1,41 +1,56 @@
 -- 01, refusals 6, 7 and 9 of a ring, "given exactly when": a corner list of odd length, a corner number outside ±10^10, and a crossed pair by the rule of Rings.
 -- Assumes nothing.
-use mathlib.Core.Path.{_≡_, refl, sym, ap, subst}
+use mathlib.Core.Path.{_≡_, refl, sym, _∙_, ap, subst}
 use mathlib.Core.Bool.{false}
 use mathlib.Core.Logic.{_↔_, _⊎_, inl, inr, ⊎-elim}
 use mathlib.Core.Option.{Option, none, some}
 use mathlib.Core.List.{List, [], _∷_, List·Memᴰ, List·Memᴰ·head, List·Memᴰ·tail, List·Memᴰ·not-nil, List·Memᴰ·cases-cons}
-use Prim.Native.Nat.{ℕ, suc, _+_, _^_, _<_, _≤_}
+use Prim.Native.Nat.{ℕ, suc, _+_, _*_, _-_, _/_, _^_, _<_, _≤_}
 use native.Mathlib.Omega.{arith}
 use lib.IntN.{ℤ, natAbs}
 use lib.ListN.{length}
-use Rattle.rules.specs.Refusals.{Answer, answered, refused, crossed-at, Passed, passed}
-use Rattle.rules.specs.Rings.{Corner, EdgePair, First, Crossing, edge}
+use Rattle.rules.specs.Refusals.{CrossedPair, answered, refused, crossed-at}
+use Rattle.rules.specs.Rings.{Corner, EdgePair, First, Crossing, edge, edge-pairs, place}
 use Rattle.rules.specs.Crossing.{crossed}
-use Rattle.rules.specs.RingAnswers.{corners, number-bad, corner-bad, any-bad, not-crossed, numbers-of}
+use Rattle.rules.specs.RingAnswers.{corners, number-bad, corner-bad, any-bad, looked-through, not-crossed, numbers-of}
 use Rattle.rules.specs.Laws.Checks.{or-false, number-exact}
+use Rattle.rules.specs.Laws.Looked.{pair-of, half, only-in-order}
 use Rattle.rules.specs.Laws.Pairs.{crossed-some, crossed-none}
 
 -- ---- 9: "crossed", with the first pair
-pub nine : (r : List Corner) (i j : ℕ) → not-crossed r ≡ crossed-at i j → First r (record { low = i; high = j })
+-- and with its place among all pairs: those with a smaller place are not crossed
+pub record Nine (r : List Corner) (pair : CrossedPair) : Type 0 where
+  pub first : First r (pair-of (pair .low) (pair .high))
+  pub counted : pair .looked-at ≡ place (pair-of (pair .low) (pair .high)) (edge-pairs (length r))
+  pub others : (k l : ℕ) → k < l → l < length r → place (pair-of k l) (edge-pairs (length r)) < pair .looked-at → ¬ Crossing (length r) k l (edge r k) (edge r l)
+
+pub nine : (r : List Corner) (pair : CrossedPair) → not-crossed r ≡ crossed-at pair → Nine r pair
 unfolding not-crossed
-nine r i j = go (crossed r) refl
+nine r pair = go (crossed r) refl
   where
-    go : (t : Option EdgePair) → crossed r ≡ t → _≡_ {A = Answer Passed} (elim t [ none ↦ answered passed | some t ↦ crossed-at (t .low) (t .high) ]) (crossed-at i j)
-        → First r (record { low = i; high = j })
+    go : (t : Option EdgePair) → crossed r ≡ t → looked-through (length r) t ≡ crossed-at pair → Nine r pair
     go none x e = absurd (let z : _≡_ {A = ℕ} 0 1 = cc e in omega arith)
     go (some t) x e =
-        let p : t .low ≡ i = cc e in
-        let q : t .high ≡ j = cc e in
-        subst (λ (u : ℕ). First r (record { low = i; high = u })) q (subst (λ (u : ℕ). First r (record { low = u; high = t .high })) p (crossed-some r t x))
+        let p : _≡_ {A = CrossedPair} (record { low = t .low; high = t .high; looked-at = place t (edge-pairs (length r)) }) pair = cc e in
+        let f = crossed-some r t x in
+        subst (Nine r) p
+        (record {
+          first = f;
+          counted = refl;
+          others = λ k l h g s. f .not-before k l h g (only-in-order (length r) k l (t .low) (t .high) h g (f .order) (f .inside) s);
+        })
 
-pub clean : (r : List Corner) → not-crossed r ≡ answered passed → (k l : ℕ) → k < l → l < length r → ¬ Crossing (length r) k l (edge r k) (edge r l)
+-- a clean ring has no crossed pair, and all its pairs were looked at
+pub record Clean (r : List Corner) (count : ℕ) : Type 0 where
+  pub none-crossed : (k l : ℕ) → k < l → l < length r → ¬ Crossing (length r) k l (edge r k) (edge r l)
+  pub counted : count ≡ length r * (length r - 1) / 2
+
+pub clean : (r : List Corner) (count : ℕ) → not-crossed r ≡ answered count → Clean r count
 unfolding not-crossed
-clean r = go (crossed r) refl
+clean r count = go (crossed r) refl
   where
-    go : (t : Option EdgePair) → crossed r ≡ t → _≡_ {A = Answer Passed} (elim t [ none ↦ answered passed | some t ↦ crossed-at (t .low) (t .high) ]) (answered passed)
-        → (k l : ℕ) → k < l → l < length r → ¬ Crossing (length r) k l (edge r k) (edge r l)
-    go none x e = crossed-none r x
+    go : (t : Option EdgePair) → crossed r ≡ t → looked-through (length r) t ≡ answered count → Clean r count
+    go none x e = let p : length (edge-pairs (length r)) ≡ count = cc e in record { none-crossed = crossed-none r x; counted = sym p ∙ half (length r) }
     go (some t) x e = absurd (let z : _≡_ {A = ℕ} 0 1 = cc e in omega arith)
 
 -- ---- 7: "a corner number outside ±10^10"

@@ -58,4 +58,4 @@ two-terminals code B L a b = go (forward-checks code B L)
     go : (checks : Answer System) → Right-forward-by B L checks a → Right-forward-by B L checks b → Alike-by B L checks a b
     go (answered s) f g = (f .0, g .0, f .1, g .1, one-fence s (Unrounded.forward s B L) (f .0) (g .0) (f .2) (g .2))
     go (refused n) f g = (f, g)
-    go (crossed-at i j) f g = (f, g)
+    go (crossed-at pair) f g = (f, g)

@@ -7,9 +7,9 @@ use Rattle.rules.specs.Points.{Point}
 abbrev pub taken : {A : Type 0} → Answer A → Answer ℕ
 taken (answered a) = answered 0
 taken (refused n) = refused n
-taken (Answer.crossed-at i j) = Answer.crossed-at i j
+taken (Answer.crossed-at pair) = Answer.crossed-at pair
 
 abbrev pub east : Answer Point → ℤ
 east (answered p) = p .Y
 east (refused n) = pos 0
-east (Answer.crossed-at i j) = pos 0
+east (Answer.crossed-at pair) = pos 0

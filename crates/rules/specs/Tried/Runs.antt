@@ -5,7 +5,7 @@ use Prim.Native.Nat.{ℕ, _+_, _*_, _-_, _^_}
 use lib.IntN.{ℤ, pos, negℤ}
 use lib.ListN.{replicate}
 use Rattle.rules.specs.Units.{_°_′_″}
-use Rattle.rules.specs.Refusals.{Answer, answered, refused, passed}
+use Rattle.rules.specs.Refusals.{Answer, answered, refused}
 use Rattle.rules.specs.Systems.{_/10^_, table}
 use Rattle.rules.specs.Scaled.{one, sqrt, quotient}
 use Rattle.rules.specs.Points as P
@@ -35,7 +35,7 @@ pub record Runs : Type 0 where
   pub two-corners : N.area-answer (pos 0 ∷ pos 0 ∷ pos 5 ∷ pos 0 ∷ []) ≡ refused 6
   pub three-corners : N.area-answer (pos 0 ∷ pos 0 ∷ pos 5 ∷ pos 0 ∷ pos 0 ∷ pos 5 ∷ []) ≡ answered (pos 25)
   -- "span 20,000,000 taken, 20,000,001 refused 8"
-  pub span-taken : N.crossing-answer (pos 0 ∷ pos 0 ∷ pos 20_000_000 ∷ pos 0 ∷ pos 0 ∷ pos 5 ∷ []) ≡ answered passed
+  pub span-taken : N.crossing-answer (pos 0 ∷ pos 0 ∷ pos 20_000_000 ∷ pos 0 ∷ pos 0 ∷ pos 5 ∷ []) ≡ answered 3
   pub span-refused : N.crossing-answer (pos 0 ∷ pos 0 ∷ pos 20_000_001 ∷ pos 0 ∷ pos 0 ∷ pos 5 ∷ []) ≡ refused 8
   pub span-of-Y-taken : taken (N.area-answer (pos 0 ∷ pos 0 ∷ pos 0 ∷ pos 20_000_000 ∷ pos 5 ∷ pos 0 ∷ [])) ≡ answered 0
   pub span-of-Y-refused : N.area-answer (pos 0 ∷ pos 0 ∷ pos 0 ∷ pos 20_000_001 ∷ pos 5 ∷ pos 0 ∷ []) ≡ refused 8

@@ -18,7 +18,7 @@ use Rattle.terminal.specs.Laws.Lent.{two-same, four-same}
 one-number : {A : Type 0} (alike : A → A → Type 0) (a b : Answer A) → Both alike a b → refusal-of a ≡ refusal-of b
 one-number alike (answered value) b h = sym (ap refusal-of (h .1))
 one-number alike (refused n) b h = sym (ap refusal-of h)
-one-number alike (crossed-at i j) b h = sym (ap refusal-of h)
+one-number alike (crossed-at pair) b h = sym (ap refusal-of h)
 
 -- where one has answered so has the other, and what was lent holds the numbers of two answers that are alike
 both-left : {A : Type 0} (alike : A → A → Type 0) (numbers : A → List ℤ) (a b : Answer A) (before other-before : List ℤ) → Both alike a b → (x : A) × (a ≡ answered x)

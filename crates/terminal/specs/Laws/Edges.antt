@@ -1,59 +1,73 @@
--- The edges that refusal 9 carries are numbers of the ring's own edges, so they lie below 1,024 and fit an i64. Assumes nothing.
+-- What refusal 9 carries fits an i64: its edges are numbers of the ring's own edges, and the pairs looked at are no more than those of 1,024 edges. So does the count of a
+-- clean ring. Assumes nothing.
 use mathlib.Core.Path.{_≡_, refl, sym, ap, _∙_}
 use mathlib.Core.Logic.{⊎-elim}
 use mathlib.Core.List.{List}
-use Prim.Native.Nat.{ℕ, _<_}
+use Prim.Native.Nat.{ℕ, _<_, _≤_}
 use native.Mathlib.Omega.{arith}
 use lib.IntN.{ℤ, pos}
 use lib.ListN.{length}
 use mir.Syntax.{w64}
 use mir.Val.{SFits, toZ}
 use mir.Facts.{toZ-pos}
-use Rattle.rules.specs.Refusals.{Answer, answered, refused, crossed-at, Passed, _>>=_, _>>_}
-use Rattle.rules.specs.Rings.{Corner}
+use Rattle.rules.specs.Refusals.{CrossedPair, Answer, answered, refused, crossed-at, _>>=_, _>>_}
+use Rattle.rules.specs.Rings.{Corner, edge-pairs}
 use Rattle.rules.specs.RingAnswers.{ring-checks, not-crossed, crossing-answer, nozzle, nozzle-answer}
-use Rattle.rules.specs.Laws.RingChecks.{nine}
+use Rattle.rules.specs.Laws.Looked.{half, few, place-most}
+use Rattle.rules.specs.Laws.RingChecks.{nine, clean}
 use Rattle.rings.specs.Corners.{pairs, Accepted}
 use Rattle.rings.specs.Laws.Accept.{judgement}
 
--- ---- a number below 1,024 as an i64
-pub small-fits : {n : ℕ} → n < 1024 → SFits w64 (pos n)
+-- ---- a number below a million as an i64
+pub small-fits : {n : ℕ} → n < 1_000_000 → SFits w64 (pos n)
 small-fits h = record { sfits = omega arith }
 
-pub small-is : {n : ℕ} → n < 1024 → toZ w64 n ≡ pos n
+pub small-is : {n : ℕ} → n < 1_000_000 → toZ w64 n ≡ pos n
 small-is h = toZ-pos w64 (omega arith)
 
-pub record EdgeNumbers (i j : ℕ) : Type 0 where
-  pub low : i < 1024
-  pub high : j < 1024
+pub record NineNumbers (pair : CrossedPair) : Type 0 where
+  pub low : pair .low < 1_000_000
+  pub high : pair .high < 1_000_000
+  pub looked-at : pair .looked-at < 1_000_000
 
-no-refusal : {A : Type 0} (n i j : ℕ) {a : Answer A} → a ≡ refused n → a ≡ crossed-at i j → ⊥
-no-refusal n i j e f = let z : _≡_ {A = ℕ} 0 1 = cc in omega arith
-
-module _ (numbers : List ℤ) (i j : ℕ) where
-  pub crossing-edges : crossing-answer numbers ≡ crossed-at i j → EdgeNumbers i j
+module _ (numbers : List ℤ) where
+  -- the crossing test's answer is that of an accepted ring, or no answer of the test itself
+  by-test : {P : Type 0} (a : Answer ℕ) → ((n : ℕ) → refused n ≡ a → P) → ((r : List Corner) → length r ≤ 1024 → not-crossed r ≡ a → P) → crossing-answer numbers ≡ a → P
   unfolding crossing-answer
-  crossing-edges e = ⊎-elim accepted (λ h. absurd (no-refusal (h .0) i j (ap (λ a. a >>= not-crossed) (h .1)) e)) (judgement numbers)
-    where
-      accepted : (ring-checks numbers ≡ answered (pairs numbers)) × Accepted numbers → EdgeNumbers i j
-      accepted h =
-          let f = nine (pairs numbers) i j (sym (ap (λ a. a >>= not-crossed) (h .0)) ∙ e) in
-          let order = f .order in
-          let inside = f .inside in
-          let most = h .1 .at-most in
-          record { low = omega arith; high = omega arith }
+  by-test a none some e =
+      ⊎-elim
+      (λ h. some (pairs numbers) (h .1 .at-most) (sym (ap (λ c. c >>= not-crossed) (h .0)) ∙ e))
+      (λ h. none (h .0) (sym (ap (λ c. c >>= not-crossed) (h .1)) ∙ e))
+      (judgement numbers)
 
-  -- a nozzle's refusal 9 is the crossing test's
-  pub nozzle-edges : (p : Corner) → nozzle-answer numbers p ≡ crossed-at i j → EdgeNumbers i j
-  unfolding crossing-answer nozzle-answer
-  nozzle-edges p e = crossing-edges (go (ring-checks numbers) e)
-    where
-      after : (r : List Corner) (a : Answer Passed) → (a >> answered (nozzle r p)) ≡ crossed-at i j → a ≡ crossed-at i j
-      after r (answered x) f = absurd (let z : _≡_ {A = ℕ} 0 1 = cc in omega arith)
-      after r (refused n) f = absurd (no-refusal n i j refl f)
-      after r (crossed-at k l) f = cc
+  pub clean-small : (looked : ℕ) → crossing-answer numbers ≡ answered looked → looked < 1_000_000
+  clean-small looked = by-test (answered looked) (λ n e. absurd (let z : _≡_ {A = ℕ} 0 1 = cc e in omega arith)) λ r most e.
+      let count : looked ≡ length (edge-pairs (length r)) = clean r looked e .counted ∙ sym (half (length r)) in
+      let all = few (length r) most in
+      omega arith
 
-      go : (a : Answer (List Corner)) → (a >>= λ r. not-crossed r >> answered (nozzle r p)) ≡ crossed-at i j → (a >>= not-crossed) ≡ crossed-at i j
-      go (answered r) f = after r (not-crossed r) f
-      go (refused n) f = absurd (no-refusal n i j refl f)
-      go (crossed-at k l) f = cc
+  module _ (pair : CrossedPair) where
+    pub crossing-nine : crossing-answer numbers ≡ crossed-at pair → NineNumbers pair
+    crossing-nine = by-test (crossed-at pair) (λ n e. absurd (let z : _≡_ {A = ℕ} 0 1 = cc e in omega arith)) λ r most e.
+        let f = nine r pair e in
+        let order = f .first .order in
+        let inside = f .first .inside in
+        let count = f .counted in
+        let place = place-most (length r) (pair .low) (pair .high) order inside in
+        let all = few (length r) most in
+        record { low = omega arith; high = omega arith; looked-at = omega arith }
+
+    -- a nozzle's refusal 9 is the crossing test's
+    pub nozzle-nine : (p : Corner) → nozzle-answer numbers p ≡ crossed-at pair → NineNumbers pair
+    unfolding crossing-answer nozzle-answer
+    nozzle-nine p e = crossing-nine (go (ring-checks numbers) e)
+      where
+        after : (r : List Corner) (a : Answer ℕ) → (a >> answered (nozzle r p)) ≡ crossed-at pair → a ≡ crossed-at pair
+        after r (answered x) f = absurd (let z : _≡_ {A = ℕ} 0 1 = cc in omega arith)
+        after r (refused n) f = absurd (let z : _≡_ {A = ℕ} 0 1 = cc in omega arith)
+        after r (crossed-at other) f = cc
+
+        go : (a : Answer (List Corner)) → (a >>= λ r. not-crossed r >> answered (nozzle r p)) ≡ crossed-at pair → (a >>= not-crossed) ≡ crossed-at pair
+        go (answered r) f = after r (not-crossed r) f
+        go (refused n) f = absurd (let z : _≡_ {A = ℕ} 0 1 = cc in omega arith)
+        go (crossed-at other) f = cc

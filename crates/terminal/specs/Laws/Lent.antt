@@ -6,7 +6,7 @@ use lib.IntN.{ℤ}
 use Rattle.rules.specs.Refusals.{Answer, answered, refused, crossed-at}
 use Rattle.rules.specs.Conversion.{verdict}
 use Rattle.rings.specs.Answers.{refusal-of}
-use Rattle.terminal.specs.Lent.{lent, edges-lent}
+use Rattle.terminal.specs.Lent.{lent, edges-lent, pairs-lent, looked-lent}
 
 -- ---- both promises of a call at once, by the answer that the library gave
 module _ {A : Type 0} (numbers : A → List ℤ) {answer : Answer A} (before : List ℤ) where
@@ -17,16 +17,21 @@ module _ {A : Type 0} (numbers : A → List ℤ) {answer : Answer A} (before : L
       → (0 ≡ refusal-of answer) × (after ≡ lent numbers answer before)
   on-answer value e f = (sym (ap refusal-of e), f ∙ sym (ap (λ a. lent numbers a before) e))
 
--- the same of a call that is lent a place for edges
-module _ {A : Type 0} {answer given : Answer A} (edges : List ℤ) (e : answer ≡ given) where
-  pub on-edges : (refusal-of given ≡ refusal-of answer) × (edges-lent given edges ≡ edges-lent answer edges)
-  on-edges = (ap refusal-of (sym e), ap (λ a. edges-lent a edges) (sym e))
+-- the same of a call that is lent places for edges and for pairs too
+pub on-crossing : {answer given : Answer ℕ} (edges pairs : List ℤ) → answer ≡ given
+    → (refusal-of given ≡ refusal-of answer) × ((edges-lent given edges ≡ edges-lent answer edges) × (looked-lent given pairs ≡ looked-lent answer pairs))
+on-crossing edges pairs e = (ap refusal-of (sym e), (ap (λ a. edges-lent a edges) (sym e), ap (λ a. looked-lent a pairs) (sym e)))
 
-  pub on-both : (numbers : A → List ℤ) (before : List ℤ)
-      → (refusal-of given ≡ refusal-of answer) × ((lent numbers given before ≡ lent numbers answer before) × (edges-lent given edges ≡ edges-lent answer edges))
-  on-both numbers before = (on-edges .0, (ap (λ a. lent numbers a before) (sym e), on-edges .1))
+pub on-nozzle : {A : Type 0} {answer given : Answer A} (numbers : A → List ℤ) (before edges pairs : List ℤ) → answer ≡ given
+    → (refusal-of given ≡ refusal-of answer)
+    × ((lent numbers given before ≡ lent numbers answer before) × ((edges-lent given edges ≡ edges-lent answer edges) × (pairs-lent given pairs ≡ pairs-lent answer pairs)))
+on-nozzle numbers before edges pairs e =
+    (ap refusal-of (sym e), (ap (λ a. lent numbers a before) (sym e), (ap (λ a. edges-lent a edges) (sym e), ap (λ a. pairs-lent a pairs) (sym e))))
 
 -- ---- equal numbers, equal lists
+pub one-same : {a a′ : ℤ} → a ≡ a′ → a ∷ [] ≡ a′ ∷ []
+one-same e = ap (λ x. x ∷ []) e
+
 pub two-same : {a b a′ b′ : ℤ} → a ≡ a′ → b ≡ b′ → a ∷ b ∷ [] ≡ a′ ∷ b′ ∷ []
 two-same e f = ap₂ (λ x y. x ∷ y ∷ []) e f
 
@@ -37,4 +42,4 @@ four-same e f g h = ap₂ (λ x l. x ∷ l) e (ap₂ (λ x l. x ∷ l) f (two-sa
 pub verdict-number : (a : Answer (List ℤ)) → refusal-of (verdict a) ≡ refusal-of a
 verdict-number (answered l) = refl
 verdict-number (refused n) = refl
-verdict-number (crossed-at i j) = refl
+verdict-number (crossed-at pair) = refl

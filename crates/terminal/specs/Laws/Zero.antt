@@ -10,7 +10,7 @@ use Rattle.terminal.specs.Returned.{Returned}
 pub zero-answers : {A : Type 0} (a : Answer A) → Listed a → refusal-of a ≡ 0 → (value : A) × (a ≡ answered value)
 zero-answers (answered value) h e = (value, refl)
 zero-answers (refused n) h e = absurd (subst (λ n. T (among n in-use)) e h)
-zero-answers (crossed-at i j) h e = absurd (subst (λ n. T (among n in-use)) e tt)
+zero-answers (crossed-at pair) h e = absurd (subst (λ n. T (among n in-use)) e tt)
 
 pub returned : {A : Type 0} (a : Answer A) → Listed a → Returned a
 returned (answered value) h = tt
@@ -19,4 +19,4 @@ returned (refused n) h = or-else (eqb n 0) (among n in-use) h
     or-else : (b c : Bool) → T c → T (b || c)
     or-else true c t = tt
     or-else false c t = t
-returned (crossed-at i j) h = tt
+returned (crossed-at pair) h = tt

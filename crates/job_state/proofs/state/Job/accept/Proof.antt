@@ -40,7 +40,7 @@ returns-2 c =
 returns-3 : tie.Need-returns-3
 returns-3 c =
     let s = c .before .before .before .before .before .before .args .self in
-    crosses s (unmapped _ (s .corners) (c .before .before .before .before .before .before .good .0 .1 .1 .0 .1 .0 .1)) (c .before .before .before .judge .result) (c .before .before .before .before .counted .result) (c .before .before .before .before .counted .ensures) (c .before .before .before .judge .ensures) _ _ (c .before .judged3 .given .1)
+    crosses s (unmapped _ (s .corners) (c .before .before .before .before .before .before .good .0 .1 .1 .0 .1 .0 .1)) (c .before .before .before .judge .result) (c .before .before .before .before .counted .result) (c .before .before .before .before .counted .ensures) (c .before .before .before .judge .ensures) _ _ _ (c .before .judged3 .given .1)
 
 pub accept-spec : {M : Type 1} → statement M
 accept-spec =
