@@ -1,12 +1,13 @@
 -- `misgwalor_crossing` hands on what `crossing` answers. Assumes nothing.
 use mathlib.Core.Path.{_≡_, sym, ap, _∙_}
 use Prim.Native.Nat.{_<_}
+use native.Mathlib.Omega.{arith}
 use borrow.Author.Needs.{needs}
 use Rattle.rules.specs.Refusals.{CrossedPair, answered, crossed-at}
 use Rattle.rules.specs.RingAnswers.{crossing-answer}
 use Rattle.rings.specs.Answers.{crossing-paper}
 use Rattle.terminal.specs.Laws.Lent.{on-crossing, one-same, two-same}
-use Rattle.terminal.specs.Laws.Edges.{NineNumbers, clean-small, crossing-nine, small-fits, small-is}
+use Rattle.terminal.specs.Laws.Edges.{NineNumbers, clean-small, crossing-nine, small-is}
 use Rattle.terminal.proofs.misgwalor_crossing.Statement.{statement}
 use Rattle.terminal.proofs.misgwalor_crossing.Tie as tie
 
@@ -34,7 +35,7 @@ small-count : (c : tie.After-known-told) → c .before .all .given .0 .0 < 1_000
 small-count c = clean-small (c .before .before .before .before .args .corners .now) _ (clean c)
 
 cast-t11 : tie.Need-cast-t11
-cast-t11 c = small-fits (small-count c)
+cast-t11 c = let n = small-count c in record { sfits = omega arith }
 
 -- of a crossed one
 abbrev nine : tie.After-known-told3 → CrossedPair
@@ -47,13 +48,13 @@ small : (c : tie.After-known-told3) → NineNumbers (nine c)
 small c = crossing-nine (c .before .before .before .before .args .corners .now) _ (crossed c)
 
 cast-t12 : tie.Need-cast-t12
-cast-t12 c = small-fits (small c .low)
+cast-t12 c = let n = small c in record { sfits = omega arith }
 
 cast-t13 : tie.Need-cast-t13
-cast-t13 c = small-fits (small c .high)
+cast-t13 c = let n = small c in record { sfits = omega arith }
 
 cast-t12-2 : tie.Need-cast-t12-2
-cast-t12-2 c = small-fits (small (c .before) .looked-at)
+cast-t12-2 c = let n = small (c .before) in record { sfits = omega arith }
 
 returns : tie.Need-returns
 returns c =

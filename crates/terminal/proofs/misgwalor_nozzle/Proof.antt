@@ -1,6 +1,7 @@
 -- `misgwalor_nozzle` hands on what `nozzle` answers. Assumes nothing.
 use mathlib.Core.Path.{_≡_, sym, ap, ap₂, _∙_}
 use mir.Facts.{toZ-ofZ}
+use native.Mathlib.Omega.{arith}
 use borrow.Author.Needs.{needs}
 use Rattle.rules.specs.Refusals.{CrossedPair, crossed-at}
 use Rattle.rules.specs.RingAnswers.{nozzle-answer}
@@ -9,7 +10,7 @@ use Rattle.rings.specs.Corners.{corner}
 use Rattle.rings.specs.declared.NozzleAnswer.{NozzleAnswer}
 use Rattle.terminal.specs.Lent.{lent, edges-lent, pairs-lent, nozzle-number}
 use Rattle.terminal.specs.Laws.Lent.{on-nozzle, one-same, two-same}
-use Rattle.terminal.specs.Laws.Edges.{NineNumbers, nozzle-nine, small-fits, small-is}
+use Rattle.terminal.specs.Laws.Edges.{NineNumbers, nozzle-nine, small-is}
 use Rattle.terminal.proofs.misgwalor_nozzle.Statement.{statement}
 use Rattle.terminal.proofs.misgwalor_nozzle.Tie as tie
 
@@ -49,13 +50,13 @@ small : (c : tie.After-known-told2) → NineNumbers (nine c)
 small c = nozzle-nine (c .before .before .before .before .args .corners .now) _ _ (crossed c)
 
 cast-t13 : tie.Need-cast-t13
-cast-t13 c = small-fits (small c .low)
+cast-t13 c = let n = small c in record { sfits = omega arith }
 
 cast-t14 : tie.Need-cast-t14
-cast-t14 c = small-fits (small c .high)
+cast-t14 c = let n = small c in record { sfits = omega arith }
 
 cast-t13-2 : tie.Need-cast-t13-2
-cast-t13-2 c = small-fits (small (c .before) .looked-at)
+cast-t13-2 c = let n = small (c .before) in record { sfits = omega arith }
 
 -- the number and what was lent, by the case that the library's call gave
 handed : (c : tie.After-nozzle) (n : NozzleAnswer) → c .nozzle .result ≡ n

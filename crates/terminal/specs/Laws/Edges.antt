@@ -8,7 +8,7 @@ use native.Mathlib.Omega.{arith}
 use lib.IntN.{ℤ, pos}
 use lib.ListN.{length}
 use mir.Syntax.{w64}
-use mir.Val.{SFits, toZ}
+use mir.Val.{toZ}
 use mir.Facts.{toZ-pos}
 use Rattle.rules.specs.Refusals.{CrossedPair, Answer, answered, refused, crossed-at, _>>=_, _>>_}
 use Rattle.rules.specs.Rings.{Corner, edge-pairs}
@@ -19,9 +19,6 @@ use Rattle.rings.specs.Corners.{pairs, Accepted}
 use Rattle.rings.specs.Laws.Accept.{judgement}
 
 -- ---- a number below a million as an i64
-pub small-fits : {n : ℕ} → n < 1_000_000 → SFits w64 (pos n)
-small-fits h = record { sfits = omega arith }
-
 pub small-is : {n : ℕ} → n < 1_000_000 → toZ w64 n ≡ pos n
 small-is h = toZ-pos w64 (omega arith)
 
