@@ -3,7 +3,7 @@ use mathlib.Core.Path.{_≡_}
 use mathlib.Core.Bool.{Bool, true, false, not, _&&_, _||_}
 use mathlib.Core.Option.{Option, none, some}
 use mathlib.Core.List.{List}
-use Prim.Native.Nat.{ℕ, suc, _+_, _<_, _≤_}
+use Prim.Native.Nat.{ℕ, suc, _+_, _*_, _<_, _≤_}
 use lib.Dec.{ltb}
 use lib.IntN.{ℤ, pos, _+ℤ_, _-ℤ_, _*ℤ_}
 use lib.ListN.{length, drop, getD}
@@ -32,6 +32,15 @@ pub record BoxOf (r : List Corner) (k : ℕ) (low-x high-x low-y high-y : ℤ) :
   pub high-x-is : high-x ≡ larger (getD r k origin .x) (getD r (k + 1) origin .x)
   pub low-y-is : low-y ≡ smaller (getD r k origin .y) (getD r (k + 1) origin .y)
   pub high-y-is : high-y ≡ larger (getD r k origin .y) (getD r (k + 1) origin .y)
+
+-- the edges from number `start` to before number `stop` are of run m, which has a box
+pub record InRun (r lows : List Corner) (m start stop : ℕ) : Type 0 where
+  pub has-box : m < length lows
+  pub from-run : 16 * m ≤ start
+  pub in-order : start ≤ stop
+  pub to-run : stop ≤ 16 * m + 16
+  pub in-ring : stop < length r
+  pub at-most : length r ≤ 1024
 
 -- l is the first edge from number `start` to before number `stop` whose box is not away, or `stop`
 pub record Skipped (r : List Corner) (low-x high-x low-y high-y : ℤ) (start stop l : ℕ) : Type 0 where

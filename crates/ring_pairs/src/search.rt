@@ -6,7 +6,8 @@ ghost use lib.ListN.{length, getD};
 ghost use Rattle.rules.specs.Rings.{_to_, origin};
 ghost use Rattle.rules.specs.Crossing.{meets, folds};
 ghost use Rattle.ring_corners.specs.Corners.{pairs, Accepted};
-ghost use Rattle.ring_pairs.specs.Crossings.{away, Box, BoxOf, Skipped, FirstMet, pair-at, pair-after};
+ghost use Rattle.ring_boxes.specs.Boxes.{Boxed};
+ghost use Rattle.ring_pairs.specs.Crossings.{away, Box, BoxOf, InRun, Skipped, FirstMet, pair-at, pair-after};
 use crate::meeting;
 use ring_corners::corners;
 
@@ -40,24 +41,34 @@ fn fold_at(corners: &[i64], i: usize, j: usize, k: usize) -> bool
     meeting::fold(ax, ay, bx, by, cx, cy)
 }
 
-// Whether the box of edge l has no point in common with the box from low to high.
-fn away_from(corners: &[i64], low_x: i64, high_x: i64, low_y: i64, high_y: i64, l: usize) -> bool
-    requires { ⌜ Box «low_x» «high_x» «low_y» «high_y» × (l + 1 < length (pairs (now corners))) ⌝ }
-    ensures { λ r. ⌜ r ≡ away «low_x» «high_x» «low_y» «high_y» (getD (pairs (now (corners .entry))) l origin) (getD (pairs (now (corners .entry))) (l + 1) origin) ⌝ }
+// Whether the box of two corners, number i of one list and number j of another, has no point in common with the box from low to high. The two are the ends of an
+// edge, or the lowest and the highest numbers of a run of edges.
+fn away_from(
+    first: &[i64],
+    i: usize,
+    second: &[i64],
+    j: usize,
+    low_x: i64,
+    high_x: i64,
+    low_y: i64,
+    high_y: i64,
+) -> bool
+    requires { ⌜ Box «low_x» «high_x» «low_y» «high_y» × (i < length (pairs (now first))) × (j < length (pairs (now second))) ⌝ }
+    ensures { λ r. ⌜ r ≡ away «low_x» «high_x» «low_y» «high_y» (getD (pairs (now (first .entry))) i origin) (getD (pairs (now (second .entry))) j origin) ⌝ }
 {
     if meeting::beyond(
         low_x,
         high_x,
-        corners::x_at(corners, l),
-        corners::x_at(corners, l + 1),
+        corners::x_at(first, i),
+        corners::x_at(second, j),
     ) {
         return true;
     }
     meeting::beyond(
         low_y,
         high_y,
-        corners::y_at(corners, l),
-        corners::y_at(corners, l + 1),
+        corners::y_at(first, i),
+        corners::y_at(second, j),
     )
 }
 
@@ -76,9 +87,72 @@ fn first_near(
 {
     let mut l = start;
     while l < stop {
-        if away_from(corners, low_x, high_x, low_y, high_y, l) {
+        if away_from(corners, l, corners, l + 1, low_x, high_x, low_y, high_y) {
             l += 1;
         } else {
+            return l;
+        }
+    }
+    l
+}
+
+// The same within run m. Where the run's box is away no edge of the run is near.
+fn near_in_run(
+    corners: &[i64],
+    lows: &[i64],
+    highs: &[i64],
+    m: usize,
+    low_x: i64,
+    high_x: i64,
+    low_y: i64,
+    high_y: i64,
+    start: usize,
+    stop: usize,
+) -> usize
+    requires { ⌜ Box «low_x» «high_x» «low_y» «high_y» × Boxed (pairs (now corners)) (pairs (now lows)) (pairs (now highs)) × InRun (pairs (now corners)) (pairs (now lows)) m start stop ⌝ }
+    ensures { λ r. ⌜ Skipped (pairs (now (corners .entry))) «low_x» «high_x» «low_y» «high_y» start stop r ⌝ }
+{
+    if away_from(lows, m, highs, m, low_x, high_x, low_y, high_y) {
+        return stop;
+    }
+    first_near(corners, low_x, high_x, low_y, high_y, start, stop)
+}
+
+// The same over any number of runs. Past the last box, so also where there are no boxes at all, edge by edge.
+fn next_near(
+    corners: &[i64],
+    lows: &[i64],
+    highs: &[i64],
+    low_x: i64,
+    high_x: i64,
+    low_y: i64,
+    high_y: i64,
+    start: usize,
+    stop: usize,
+) -> usize
+    requires { ⌜ Box «low_x» «high_x» «low_y» «high_y» × Boxed (pairs (now corners)) (pairs (now lows)) (pairs (now highs)) × (start ≤ stop) × (stop < length (pairs (now corners))) × (length (pairs (now corners)) ≤ 1024) ⌝ }
+    ensures { λ r. ⌜ Skipped (pairs (now (corners .entry))) «low_x» «high_x» «low_y» «high_y» start stop r ⌝ }
+{
+    let mut l = start;
+    while l < stop {
+        let m = l / 16;
+        if lows.len() / 2 <= m {
+            return first_near(corners, low_x, high_x, low_y, high_y, l, stop);
+        }
+        let end = ring_boxes::run_end(m, stop);
+        l = near_in_run(
+            corners,
+            lows,
+            highs,
+            m,
+            low_x,
+            high_x,
+            low_y,
+            high_y,
+            l,
+            end,
+        );
+        if l < end {
             return l;
         }
     }
@@ -88,6 +162,8 @@ fn first_near(
 // The first edge from number `start` to before number `stop` that meets edge k, whose box is from low to high; or `stop`.
 fn first_met_by(
     corners: &[i64],
+    lows: &[i64],
+    highs: &[i64],
     k: usize,
     low_x: i64,
     high_x: i64,
@@ -96,21 +172,32 @@ fn first_met_by(
     start: usize,
     stop: usize,
 ) -> usize
-    requires { ⌜ Accepted (now corners) × (k + 1 < length (pairs (now corners))) × (start ≤ stop) × (stop < length (pairs (now corners))) × BoxOf (pairs (now corners)) k «low_x» «high_x» «low_y» «high_y» ⌝ }
+    requires { ⌜ Accepted (now corners) × (k + 1 < length (pairs (now corners))) × (start ≤ stop) × (stop < length (pairs (now corners))) × BoxOf (pairs (now corners)) k «low_x» «high_x» «low_y» «high_y» × Boxed (pairs (now corners)) (pairs (now lows)) (pairs (now highs)) ⌝ }
     ensures { λ r. ⌜ FirstMet (pairs (now (corners .entry))) k start stop r ⌝ }
 {
-    let mut l = first_near(corners, low_x, high_x, low_y, high_y, start, stop);
+    let mut l = start;
     while l < stop {
+        l = next_near(corners, lows, highs, low_x, high_x, low_y, high_y, l, stop);
+        if stop <= l {
+            return l;
+        }
         if meet_at(corners, k, k + 1, l, l + 1) {
             return l;
         }
-        l = first_near(corners, low_x, high_x, low_y, high_y, l + 1, stop);
+        l += 1;
     }
     l
 }
 
-fn first_met(corners: &[i64], k: usize, start: usize, stop: usize) -> usize
-    requires { ⌜ Accepted (now corners) × (k + 1 < length (pairs (now corners))) × (start ≤ stop) × (stop < length (pairs (now corners))) ⌝ }
+fn first_met(
+    corners: &[i64],
+    lows: &[i64],
+    highs: &[i64],
+    k: usize,
+    start: usize,
+    stop: usize,
+) -> usize
+    requires { ⌜ Accepted (now corners) × (k + 1 < length (pairs (now corners))) × (start ≤ stop) × (stop < length (pairs (now corners))) × Boxed (pairs (now corners)) (pairs (now lows)) (pairs (now highs)) ⌝ }
     ensures { λ r. ⌜ FirstMet (pairs (now (corners .entry))) k start stop r ⌝ }
 {
     let ax = corners::x_at(corners, k);
@@ -121,18 +208,29 @@ fn first_met(corners: &[i64], k: usize, start: usize, stop: usize) -> usize
     let high_x = ring_checks::greater(ax, bx);
     let low_y = ring_checks::lesser(ay, by);
     let high_y = ring_checks::greater(ay, by);
-    first_met_by(corners, k, low_x, high_x, low_y, high_y, start, stop)
+    first_met_by(
+        corners,
+        lows,
+        highs,
+        k,
+        low_x,
+        high_x,
+        low_y,
+        high_y,
+        start,
+        stop,
+    )
 }
 
 // The first edge after k that makes a pair with it, or the number of edges; edge k + 1 is not the last.
-fn after(corners: &[i64], k: usize, last: usize) -> usize
-    requires { ⌜ Accepted (now corners) × (last + 1 ≡ length (pairs (now corners))) × (k + 1 < last) ⌝ }
+fn after(corners: &[i64], lows: &[i64], highs: &[i64], k: usize, last: usize) -> usize
+    requires { ⌜ Accepted (now corners) × (last + 1 ≡ length (pairs (now corners))) × (k + 1 < last) × Boxed (pairs (now corners)) (pairs (now lows)) (pairs (now highs)) ⌝ }
     ensures { λ r. ⌜ pair-at (length (pairs (now (corners .entry)))) k r ≡ pair-after (pairs (now (corners .entry))) k ⌝ }
 {
     if fold_at(corners, k, k + 1, k + 2) {
         return k + 1;
     }
-    let l = first_met(corners, k, k + 2, last);
+    let l = first_met(corners, lows, highs, k, k + 2, last);
     if l < last {
         return l;
     }
@@ -160,12 +258,12 @@ fn before_last(corners: &[i64], k: usize, last: usize) -> usize
 }
 
 // The same for any edge but the last.
-pub fn later(corners: &[i64], k: usize, last: usize) -> usize
-    requires { ⌜ Accepted (now corners) × (last + 1 ≡ length (pairs (now corners))) × (k < last) ⌝ }
+pub fn later(corners: &[i64], lows: &[i64], highs: &[i64], k: usize, last: usize) -> usize
+    requires { ⌜ Accepted (now corners) × (last + 1 ≡ length (pairs (now corners))) × (k < last) × Boxed (pairs (now corners)) (pairs (now lows)) (pairs (now highs)) ⌝ }
     ensures { λ r. ⌜ pair-at (length (pairs (now (corners .entry)))) k r ≡ pair-after (pairs (now (corners .entry))) k ⌝ }
 {
     if k + 1 < last {
-        return after(corners, k, last);
+        return after(corners, lows, highs, k, last);
     }
     before_last(corners, k, last)
 }

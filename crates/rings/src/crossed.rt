@@ -1,21 +1,23 @@
-// The first crossed pair of a ring's edges, in order of the lower edge and then of the higher: each edge in turn is asked for the first later edge that makes a
-// pair with it.
+// The first crossed pair of a ring's edges, in order of the lower edge and then of the higher, and how many pairs were looked at: each edge in turn is asked for the
+// first later edge that makes a pair with it. In a ring of many corners it is held against the boxes of runs of edges first.
 ghost use mathlib.Core.Path.{_≡_};
 ghost use Rattle.rules.specs.RingAnswers.{not-crossed};
 ghost use Rattle.rings.specs.Answers.{crossing-paper};
+ghost use Rattle.ring_boxes.specs.Boxes.{Boxed};
 ghost use Rattle.ring_corners.specs.Corners.{pairs, Accepted};
 use crate::CrossingAnswer;
 use ring_pairs::search;
 
-pub fn first_pair(corners: &[i64]) -> CrossingAnswer
-    requires { ⌜ Accepted (now corners) ⌝ }
+// `lows` and `highs` have the boxes of the ring's runs, or are empty. Every later edge counts as looked at, also where a run's box spoke for it.
+fn search(corners: &[i64], lows: &[i64], highs: &[i64]) -> CrossingAnswer
+    requires { ⌜ Accepted (now corners) × Boxed (pairs (now corners)) (pairs (now lows)) (pairs (now highs)) ⌝ }
     ensures { λ r. ⌜ crossing-paper r ≡ not-crossed (pairs (now (corners .entry))) ⌝ }
 {
     let last = corners.len() / 2 - 1;
     let mut looked = 0;
     let mut k = 0;
     while k < last {
-        let l = search::later(corners, k, last);
+        let l = search::later(corners, lows, highs, k, last);
         if l <= last {
             return CrossingAnswer::Crossed(k as u64, l as u64, (looked + (l - k)) as u64);
         }
@@ -23,4 +25,27 @@ pub fn first_pair(corners: &[i64]) -> CrossingAnswer
         k += 1;
     }
     CrossingAnswer::Clean(looked as u64)
+}
+
+fn search_by_runs(corners: &[i64]) -> CrossingAnswer
+    requires { ⌜ Accepted (now corners) ⌝ }
+    ensures { λ r. ⌜ crossing-paper r ≡ not-crossed (pairs (now (corners .entry))) ⌝ }
+{
+    let mut lows = [0i64; 128];
+    let mut highs = [0i64; 128];
+    let last = corners.len() / 2 - 1;
+    ring_boxes::fill(corners, last, &mut lows, &mut highs);
+    search(corners, &lows, &highs)
+}
+
+// Where the corners are few, filling boxes takes longer than it saves.
+pub fn first_pair(corners: &[i64]) -> CrossingAnswer
+    requires { ⌜ Accepted (now corners) ⌝ }
+    ensures { λ r. ⌜ crossing-paper r ≡ not-crossed (pairs (now (corners .entry))) ⌝ }
+{
+    if corners.len() <= 64 {
+        let none = &corners[0..0];
+        return search(corners, none, none);
+    }
+    search_by_runs(corners)
 }

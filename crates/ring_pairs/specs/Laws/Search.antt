@@ -253,15 +253,10 @@ module _ {r : List Corner} {k : ℕ} {lx hx ly hy : ℤ} (b : BoxOf r k lx hx ly
   unmet : (j : ℕ) → away lx hx ly hy (getD r j origin) (getD r (j + 1) origin) ≡ true → meets (leg r k) (leg r j) ≡ false
   unmet j e = away-apart (getD r k origin) (getD r (k + 1) origin) (getD r j origin) (getD r (j + 1) origin) (rw (b .low-x-is, b .high-x-is, b .low-y-is, b .high-y-is) at e)
 
-  pub skip-first : {start stop l : ℕ} → Skipped r lx hx ly hy start stop l → Met-none r k start stop l
-  skip-first s = record { low = s .low; high = s .high; none-met = λ j a c. unmet j (s .skipped j a c) }
-
-  -- edge l does not meet, and those after it to before m are away
-  pub skip-more : {start stop l m : ℕ} → Met-none r k start stop l → l < stop → meets (leg r k) (leg r l) ≡ false → Skipped r lx hx ly hy (l + 1) stop m → Met-none r k start stop m
-  skip-more {start} {stop} {l} {m} s h e t =
-      let n = met-step s h e in
-      record {
-        low = omega (arith, s .low, t .low);
-        high = t .high;
-        none-met = λ j a c. elim (decLt j (l + 1)) [ yes g ↦ n .none-met j a g | no g ↦ unmet j (t .skipped j (omega arith) c) ];
-      }
+  -- none before l meets, and those from l to before m are away
+  pub skip-on : {start stop l m : ℕ} → Met-none r k start stop l → Skipped r lx hx ly hy l stop m → Met-none r k start stop m
+  skip-on {start} {stop} {l} {m} s t = record {
+    low = omega (arith, s .low, t .low);
+    high = t .high;
+    none-met = λ j a c. elim (decLt j l) [ yes g ↦ s .none-met j a g | no g ↦ unmet j (t .skipped j (omega arith) c) ];
+  }

@@ -37,7 +37,7 @@ add-first-met : tie.Need-add-first-met
 add-first-met c = let p = c .before .before .pre in let m = p .0 .at-most in let n = p .1 in let k = p .2 in omega arith
 
 first-met-requires : tie.Need-first-met-requires
-first-met-requires c κs = let p = c .before .before .pre in let n = p .1 in let k = p .2 in (p .0, omega arith, omega arith, omega arith)
+first-met-requires c κs = let p = c .before .before .pre in let n = p .1 in let k = p .2 in (p .0, omega arith, omega arith, omega arith, p .3)
 
 returns-2 : tie.Need-returns-2
 returns-2 c =

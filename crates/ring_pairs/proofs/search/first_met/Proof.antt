@@ -1,6 +1,4 @@
 -- The box of edge k, by its two ends. Assumes nothing.
-use native.Mathlib.Omega.{arith}
-use Prim.Native.Nat.{_+_, _<_}
 use mir.Syntax.{w64}
 use mir.Val.{toZ, ofZ}
 use Rattle.ring_corners.specs.Corners.{pairs}
@@ -51,7 +49,7 @@ greater-requires-2 c κs = search needs
 first-met-by-requires : tie.Need-first-met-by-requires
 first-met-by-requires c κs =
     let p = c .before .before .before .before .before .before .before .before .pre in
-    (p .0, p .1, p .2, p .3, box c)
+    (p .0, p .1, p .2, p .3, box c, p .4)
 
 returns : tie.Need-returns
 returns c = search needs

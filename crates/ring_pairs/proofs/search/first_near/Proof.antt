@@ -1,10 +1,10 @@
 -- Every edge that was passed has its box away. Assumes nothing.
-use mathlib.Core.Path.{_≡_, sym, _∙_}
-use Prim.Native.Nat.{_+_, _-_, _<_}
+use mathlib.Core.Path.{sym, _∙_}
+use Prim.Native.Nat.{_-_}
 use native.Mathlib.Omega.{arith}
 use mir.Facts.{toZ-ofZ}
 use mir.Syntax.{w64}
-use mir.Val.{toZ, ofZ}
+use mir.Val.{toZ}
 use Rattle.ring_corners.specs.Corners.{pairs}
 use Rattle.ring_pairs.specs.Crossings.{Skipped}
 use Rattle.ring_pairs.specs.Laws.Search.{skip-start, skip-step}
@@ -20,12 +20,15 @@ abbrev μ-loop : tie.MeasureT-loop
 loop-holds : tie.Need-loop-holds Inv-loop μ-loop
 loop-holds c = skip-start _ _ _ _ _ _ _ (c .pre .1)
 
+add-away-from : tie.Need-add-away-from Inv-loop μ-loop
+add-away-from c = let st = c .before .before in let t = c .loop-test .taken in let s = st .pre .2 in let m = st .pre .3 in omega arith
+
 away-from-requires : tie.Need-away-from-requires Inv-loop μ-loop
 away-from-requires c κs =
     let st = c .before .before in
     let t = c .loop-test .taken in
     let s = st .pre .2 in
-    (rw (toZ-ofZ (st .fits .low-x), toZ-ofZ (st .fits .high-x), toZ-ofZ (st .fits .low-y), toZ-ofZ (st .fits .high-y)) (st .pre .0), omega arith)
+    (rw (toZ-ofZ (st .fits .low-x), toZ-ofZ (st .fits .high-x), toZ-ofZ (st .fits .low-y), toZ-ofZ (st .fits .high-y)) (st .pre .0), omega arith, omega arith)
 
 add-l : tie.Need-add-l Inv-loop μ-loop
 add-l c = let st = c .before .before .before .before in let t = c .before .before .loop-test .taken in let s = st .pre .2 in let m = st .pre .3 in omega arith
@@ -49,6 +52,7 @@ first-near-spec =
     Inv-loop
     μ-loop
     loop-holds
+    add-away-from
     away-from-requires
     add-l
     loop-less
