@@ -7,7 +7,7 @@ use Prim.Native.Nat.{ℕ, suc, _+_, _*_, _<_, _≤_}
 use lib.Dec.{ltb}
 use lib.IntN.{ℤ, pos, _+ℤ_, _-ℤ_, _*ℤ_}
 use lib.ListN.{length, drop, getD}
-use lib.Signed.{ltZ, _≤ℤ_}
+use lib.Signed.{ltZ}
 use Rattle.rules.specs.Rings.{Corner, Edge, _to_, origin, D, isZero, edge, edges, EdgePair}
 use Rattle.rules.specs.RingAnswers.{smaller, larger}
 use Rattle.rules.specs.Crossing.{aside, meets, first-with}
@@ -21,12 +21,7 @@ outside low high c d = (ltZ high c && ltZ high d) || (ltZ c low && ltZ d low)
 unfoldable pub away : ℤ → ℤ → ℤ → ℤ → Corner → Corner → Bool
 away low-x high-x low-y high-y c d = outside low-x high-x (c .x) (d .x) || outside low-y high-y (c .y) (d .y)
 
--- the numbers of a box, from the smaller to the larger
-pub record Box (low-x high-x low-y high-y : ℤ) : Type 0 where
-  pub x-order : low-x ≤ℤ high-x
-  pub y-order : low-y ≤ℤ high-y
-
--- they are those of the edge from corner k to the next
+-- low and high are the numbers of the box of the edge from corner k to the next
 pub record BoxOf (r : List Corner) (k : ℕ) (low-x high-x low-y high-y : ℤ) : Type 0 where
   pub low-x-is : low-x ≡ smaller (getD r k origin .x) (getD r (k + 1) origin .x)
   pub high-x-is : high-x ≡ larger (getD r k origin .x) (getD r (k + 1) origin .x)

@@ -1,13 +1,15 @@
 // The first edge after a given one that makes a crossed pair with it. The loop runs over the edges that are no neighbours, and whose head is the next corner; the
-// neighbour and the last edge, which runs to the first corner, are tested beside it.
+// neighbour and the last edge, which runs to the first corner, are tested beside it. `lows` and `highs` have the boxes of runs of edges, as ring_boxes fills them,
+// or are empty.
 ghost use mathlib.Core.Path.{_≡_};
+ghost use mathlib.Core.Bool.{false};
 ghost use Prim.Native.Nat.{_+_, _<_, _≤_};
 ghost use lib.ListN.{length, getD};
 ghost use Rattle.rules.specs.Rings.{_to_, origin};
 ghost use Rattle.rules.specs.Crossing.{meets, folds};
 ghost use Rattle.ring_corners.specs.Corners.{pairs, Accepted};
 ghost use Rattle.ring_boxes.specs.Boxes.{Boxed};
-ghost use Rattle.ring_pairs.specs.Crossings.{away, Box, BoxOf, InRun, Skipped, FirstMet, pair-at, pair-after};
+ghost use Rattle.ring_pairs.specs.Crossings.{away, BoxOf, InRun, Skipped, FirstMet, pair-at, pair-after};
 use crate::meeting;
 use ring_corners::corners;
 
@@ -53,7 +55,7 @@ fn away_from(
     low_y: i64,
     high_y: i64,
 ) -> bool
-    requires { ⌜ Box «low_x» «high_x» «low_y» «high_y» × (i < length (pairs (now first))) × (j < length (pairs (now second))) ⌝ }
+    requires { ⌜ (i < length (pairs (now first))) × (j < length (pairs (now second))) ⌝ }
     ensures { λ r. ⌜ r ≡ away «low_x» «high_x» «low_y» «high_y» (getD (pairs (now (first .entry))) i origin) (getD (pairs (now (second .entry))) j origin) ⌝ }
 {
     if meeting::beyond(
@@ -72,6 +74,26 @@ fn away_from(
     )
 }
 
+// Whether edge k, whose box is from low to high, and the edge from corner i to j share a point; by their boxes first.
+fn meet_by_box(
+    corners: &[i64],
+    k: usize,
+    low_x: i64,
+    high_x: i64,
+    low_y: i64,
+    high_y: i64,
+    i: usize,
+    j: usize,
+) -> bool
+    requires { ⌜ Accepted (now corners) × (k + 1 < length (pairs (now corners))) × (i < length (pairs (now corners))) × (j < length (pairs (now corners))) × BoxOf (pairs (now corners)) k «low_x» «high_x» «low_y» «high_y» ⌝ }
+    ensures { λ r. ⌜ r ≡ meets (getD (pairs (now (corners .entry))) k origin to getD (pairs (now (corners .entry))) (k + 1) origin) (getD (pairs (now (corners .entry))) i origin to getD (pairs (now (corners .entry))) j origin) ⌝ }
+{
+    if away_from(corners, i, corners, j, low_x, high_x, low_y, high_y) {
+        return false;
+    }
+    meet_at(corners, k, k + 1, i, j)
+}
+
 // The first edge from number `start` to before number `stop` whose box is not away, or `stop`. Most pairs of edges end here, and nothing was multiplied.
 fn first_near(
     corners: &[i64],
@@ -82,7 +104,7 @@ fn first_near(
     start: usize,
     stop: usize,
 ) -> usize
-    requires { ⌜ Box «low_x» «high_x» «low_y» «high_y» × (start ≤ stop) × (stop < length (pairs (now corners))) × (length (pairs (now corners)) ≤ 1024) ⌝ }
+    requires { ⌜ (start ≤ stop) × (stop < length (pairs (now corners))) × (length (pairs (now corners)) ≤ 1024) ⌝ }
     ensures { λ r. ⌜ Skipped (pairs (now (corners .entry))) «low_x» «high_x» «low_y» «high_y» start stop r ⌝ }
 {
     let mut l = start;
@@ -109,7 +131,7 @@ fn near_in_run(
     start: usize,
     stop: usize,
 ) -> usize
-    requires { ⌜ Box «low_x» «high_x» «low_y» «high_y» × Boxed (pairs (now corners)) (pairs (now lows)) (pairs (now highs)) × InRun (pairs (now corners)) (pairs (now lows)) m start stop ⌝ }
+    requires { ⌜ Boxed (pairs (now corners)) (pairs (now lows)) (pairs (now highs)) × InRun (pairs (now corners)) (pairs (now lows)) m start stop ⌝ }
     ensures { λ r. ⌜ Skipped (pairs (now (corners .entry))) «low_x» «high_x» «low_y» «high_y» start stop r ⌝ }
 {
     if away_from(lows, m, highs, m, low_x, high_x, low_y, high_y) {
@@ -130,7 +152,7 @@ fn next_near(
     start: usize,
     stop: usize,
 ) -> usize
-    requires { ⌜ Box «low_x» «high_x» «low_y» «high_y» × Boxed (pairs (now corners)) (pairs (now lows)) (pairs (now highs)) × (start ≤ stop) × (stop < length (pairs (now corners))) × (length (pairs (now corners)) ≤ 1024) ⌝ }
+    requires { ⌜ Boxed (pairs (now corners)) (pairs (now lows)) (pairs (now highs)) × (start ≤ stop) × (stop < length (pairs (now corners))) × (length (pairs (now corners)) ≤ 1024) ⌝ }
     ensures { λ r. ⌜ Skipped (pairs (now (corners .entry))) «low_x» «high_x» «low_y» «high_y» start stop r ⌝ }
 {
     let mut l = start;
@@ -189,16 +211,10 @@ fn first_met_by(
     l
 }
 
-fn first_met(
-    corners: &[i64],
-    lows: &[i64],
-    highs: &[i64],
-    k: usize,
-    start: usize,
-    stop: usize,
-) -> usize
-    requires { ⌜ Accepted (now corners) × (k + 1 < length (pairs (now corners))) × (start ≤ stop) × (stop < length (pairs (now corners))) × Boxed (pairs (now corners)) (pairs (now lows)) (pairs (now highs)) ⌝ }
-    ensures { λ r. ⌜ FirstMet (pairs (now (corners .entry))) k start stop r ⌝ }
+// The first edge after k that makes a pair with it, or the number of edges; edge k + 1 is not the last, and makes none.
+fn past_next(corners: &[i64], lows: &[i64], highs: &[i64], k: usize, last: usize) -> usize
+    requires { ⌜ Accepted (now corners) × (last + 1 ≡ length (pairs (now corners))) × (k + 1 < last) × Boxed (pairs (now corners)) (pairs (now lows)) (pairs (now highs)) × (folds (getD (pairs (now corners)) k origin to getD (pairs (now corners)) (k + 1) origin) (getD (pairs (now corners)) (k + 1) origin to getD (pairs (now corners)) (k + 2) origin) ≡ false) ⌝ }
+    ensures { λ r. ⌜ pair-at (length (pairs (now (corners .entry)))) k r ≡ pair-after (pairs (now (corners .entry))) k ⌝ }
 {
     let ax = corners::x_at(corners, k);
     let ay = corners::y_at(corners, k);
@@ -208,7 +224,7 @@ fn first_met(
     let high_x = ring_checks::greater(ax, bx);
     let low_y = ring_checks::lesser(ay, by);
     let high_y = ring_checks::greater(ay, by);
-    first_met_by(
+    let l = first_met_by(
         corners,
         lows,
         highs,
@@ -217,20 +233,9 @@ fn first_met(
         high_x,
         low_y,
         high_y,
-        start,
-        stop,
-    )
-}
-
-// The first edge after k that makes a pair with it, or the number of edges; edge k + 1 is not the last.
-fn after(corners: &[i64], lows: &[i64], highs: &[i64], k: usize, last: usize) -> usize
-    requires { ⌜ Accepted (now corners) × (last + 1 ≡ length (pairs (now corners))) × (k + 1 < last) × Boxed (pairs (now corners)) (pairs (now lows)) (pairs (now highs)) ⌝ }
-    ensures { λ r. ⌜ pair-at (length (pairs (now (corners .entry)))) k r ≡ pair-after (pairs (now (corners .entry))) k ⌝ }
-{
-    if fold_at(corners, k, k + 1, k + 2) {
-        return k + 1;
-    }
-    let l = first_met(corners, lows, highs, k, k + 2, last);
+        k + 2,
+        last,
+    );
     if l < last {
         return l;
     }
@@ -240,10 +245,21 @@ fn after(corners: &[i64], lows: &[i64], highs: &[i64], k: usize, last: usize) ->
         }
         return last + 1;
     }
-    if meet_at(corners, k, k + 1, last, 0) {
+    if meet_by_box(corners, k, low_x, high_x, low_y, high_y, last, 0) {
         return last;
     }
     last + 1
+}
+
+// The same where edge k + 1 may make one.
+fn after(corners: &[i64], lows: &[i64], highs: &[i64], k: usize, last: usize) -> usize
+    requires { ⌜ Accepted (now corners) × (last + 1 ≡ length (pairs (now corners))) × (k + 1 < last) × Boxed (pairs (now corners)) (pairs (now lows)) (pairs (now highs)) ⌝ }
+    ensures { λ r. ⌜ pair-at (length (pairs (now (corners .entry)))) k r ≡ pair-after (pairs (now (corners .entry))) k ⌝ }
+{
+    if fold_at(corners, k, k + 1, k + 2) {
+        return k + 1;
+    }
+    past_next(corners, lows, highs, k, last)
 }
 
 // The same where edge k + 1 is the last.

@@ -6,25 +6,29 @@ ghost use Rattle.rings.specs.Answers.{crossing-paper};
 ghost use Rattle.ring_boxes.specs.Boxes.{Boxed};
 ghost use Rattle.ring_corners.specs.Corners.{pairs, Accepted};
 use crate::CrossingAnswer;
+use crate::looked;
 use ring_pairs::search;
 
-// `lows` and `highs` have the boxes of the ring's runs, or are empty. Every later edge counts as looked at, also where a run's box spoke for it.
+// `lows` and `highs` have the boxes of the ring's runs, or are empty.
 fn search(corners: &[i64], lows: &[i64], highs: &[i64]) -> CrossingAnswer
     requires { ⌜ Accepted (now corners) × Boxed (pairs (now corners)) (pairs (now lows)) (pairs (now highs)) ⌝ }
     ensures { λ r. ⌜ crossing-paper r ≡ not-crossed (pairs (now (corners .entry))) ⌝ }
 {
-    let last = corners.len() / 2 - 1;
-    let mut looked = 0;
+    let edges = corners.len() / 2;
+    let last = edges - 1;
     let mut k = 0;
     while k < last {
         let l = search::later(corners, lows, highs, k, last);
         if l <= last {
-            return CrossingAnswer::Crossed(k as u64, l as u64, (looked + (l - k)) as u64);
+            return CrossingAnswer::Crossed(
+                k as u64,
+                l as u64,
+                looked::place_of(k, l, edges) as u64,
+            );
         }
-        looked += last - k;
         k += 1;
     }
-    CrossingAnswer::Clean(looked as u64)
+    CrossingAnswer::Clean(looked::pairs_of(edges) as u64)
 }
 
 fn search_by_runs(corners: &[i64]) -> CrossingAnswer
@@ -38,14 +42,19 @@ fn search_by_runs(corners: &[i64]) -> CrossingAnswer
     search(corners, &lows, &highs)
 }
 
-// Where the corners are few, filling boxes takes longer than it saves.
+// Up to 24 corners, filling the boxes takes longer than they save. There the answer is taken apart and made anew: handed on whole it is copied, and a ring of six
+// corners takes a tenth longer, as measured.
 pub fn first_pair(corners: &[i64]) -> CrossingAnswer
     requires { ⌜ Accepted (now corners) ⌝ }
     ensures { λ r. ⌜ crossing-paper r ≡ not-crossed (pairs (now (corners .entry))) ⌝ }
 {
-    if corners.len() <= 64 {
-        let none = &corners[0..0];
-        return search(corners, none, none);
+    if 48 < corners.len() {
+        return search_by_runs(corners);
     }
-    search_by_runs(corners)
+    let none = &corners[0..0];
+    match search(corners, none, none) {
+        CrossingAnswer::Clean(looked) => CrossingAnswer::Clean(looked),
+        CrossingAnswer::Crossed(low, high, looked) => CrossingAnswer::Crossed(low, high, looked),
+        CrossingAnswer::Refused(number) => CrossingAnswer::Refused(number),
+    }
 }

@@ -8,6 +8,7 @@ ghost use Rattle.ring_corners.specs.Corners.{corner};
 use ring_turning::turning;
 
 mod crossed;
+mod looked;
 mod standing;
 
 // A whole number, or the number of a refusal.

@@ -6,9 +6,9 @@ use mathlib.Core.List.{List, [], _∷_}
 use Prim.Native.Nat.{ℕ, zero, suc}
 use native.Mathlib.Omega.{arith}
 use lib.IntN.{ℤ, pos, _+ℤ_, _-ℤ_, _*ℤ_}
-use lib.Signed.{leZ, ltZ, _≤ℤ_, _<ℤ_, ≤ℤ-refl, <ℤ-≤ℤ-trans}
+use lib.Signed.{leZ, ltZ, _≤ℤ_, _<ℤ_, <ℤ-≤ℤ-trans}
 use Rattle.arith.specs.Laws.Diff.{_⊖_, Z·ℕ, lin}
-use Rattle.arith.specs.Laws.Order.{≤ℤ-trans, ≤ℤ-<ℤ-trans, <ℤ-trans, <ℤ→≤ℤ}
+use Rattle.arith.specs.Laws.Order.{≤ℤ-<ℤ-trans, <ℤ-trans, <ℤ→≤ℤ}
 use Rattle.rules.specs.Rings.{Corner, Edge, _to_, D, isZero}
 use Rattle.rules.specs.RingAnswers.{smaller, larger}
 use Rattle.rules.specs.Crossing.{before, overlap, aside, meets, folds}
@@ -64,36 +64,20 @@ apart-is a b c d =
     (ap₂ _&&_ (smaller-above a b c) (smaller-above a b d))
     ∙ sym (neither ((ltZ a c && ltZ a d) && (ltZ b c && ltZ b d)) ((ltZ c a && ltZ c b) && (ltZ d a && ltZ d b)))
 
-pub low-high : (a b : ℤ) → smaller a b ≤ℤ larger a b
-unfolding smaller larger
-low-high a b = go (ltZ b a) (ltZ a b) refl refl
-  where
-    go : (s t : Bool) → ltZ b a ≡ s → ltZ a b ≡ t → elim s [ true ↦ b | false ↦ a ] ≤ℤ elim t [ true ↦ b | false ↦ a ]
-    go true true e f = ≤ℤ-refl b
-    go true false e f = ltZ-false a b .0 f
-    go false true e f = ltZ-false b a .0 e
-    go false false e f = ≤ℤ-refl a
+-- as the code tests it
+pub outside-is : (low high c d : ℤ) → (ltZ high (smaller c d) || ltZ (larger c d) low) ≡ outside low high c d
+unfolding outside
+outside-is low high c d = ap₂ _||_ (smaller-above c d high) (larger-below c d low)
 
-module _ (low high c d : ℤ) (order : low ≤ℤ high) where
-  pub beyond-above : high <ℤ c → high <ℤ d → outside low high c d ≡ true
-  unfolding outside
-  beyond-above h k = or-true _ _ .1 (inl (and-true (ltZ-true high c .1 h) (ltZ-true high d .1 k)))
+module _ (low high c d : ℤ) where
+  pub clear-above : high <ℤ c → (ltZ high c || ltZ d low) ≡ true
+  clear-above h = or-true (ltZ high c) (ltZ d low) .1 (inl (ltZ-true high c .1 h))
 
-  pub not-above : high <ℤ c → d ≤ℤ high → outside low high c d ≡ false
-  unfolding outside
-  not-above h k = or-false _ _ .1 (and-right (ltZ high c) (ltZ-false high d .1 k), and-left _ (ltZ-false c low .1 (≤ℤ-trans order (<ℤ→≤ℤ h))))
+  pub clear-below : d <ℤ low → (ltZ high c || ltZ d low) ≡ true
+  clear-below h = or-true (ltZ high c) (ltZ d low) .1 (inr (ltZ-true d low .1 h))
 
-  pub beyond-below : c <ℤ low → d <ℤ low → outside low high c d ≡ true
-  unfolding outside
-  beyond-below h k = or-true (ltZ high c && ltZ high d) _ .1 (inr (and-true (ltZ-true c low .1 h) (ltZ-true d low .1 k)))
-
-  pub not-below : c <ℤ low → low ≤ℤ d → outside low high c d ≡ false
-  unfolding outside
-  not-below h k = or-false _ _ .1 (and-left _ (ltZ-false high c .1 (≤ℤ-trans (<ℤ→≤ℤ h) order)), and-right (ltZ c low) (ltZ-false d low .1 k))
-
-  pub not-beyond : c ≤ℤ high → low ≤ℤ c → outside low high c d ≡ false
-  unfolding outside
-  not-beyond h k = or-false _ _ .1 (and-left _ (ltZ-false high c .1 h), and-left _ (ltZ-false c low .1 k))
+  pub not-clear : c ≤ℤ high → low ≤ℤ d → (ltZ high c || ltZ d low) ≡ false
+  not-clear h k = or-false (ltZ high c) (ltZ d low) .1 (ltZ-false high c .1 h, ltZ-false d low .1 k)
 
 -- ---- signs
 not-yes : (x : Bool) → not x ≡ true → x ≡ false

@@ -15,8 +15,8 @@ use borrow.Author.Tests.{eq-eqb, ne-eqb, lt-ltb, le-ltb}
 use Rattle.rules.specs.Rings.{Corner, Edge, _to_, origin, edge, edges, EdgePair}
 use Rattle.rules.specs.Crossing.{meets, folds, bad, first-with}
 use Rattle.rules.specs.Laws.Edges.{length-edges, edge-at, edge-last}
-use Rattle.ring_pairs.specs.Crossings.{away, Box, BoxOf, Skipped, FirstMet, pair-at, pair-after}
-use Rattle.ring_pairs.specs.Laws.Crossings.{away-apart, low-high}
+use Rattle.ring_pairs.specs.Crossings.{away, BoxOf, Skipped, FirstMet, pair-at, pair-after}
+use Rattle.ring_pairs.specs.Laws.Crossings.{away-apart}
 use Rattle.ring_corners.specs.Laws.Tests.{and-left, and-right}
 
 -- ---- the edges of a ring
@@ -244,19 +244,14 @@ skip-step {r} {lx} {hx} {ly} {hy} {start} {stop} {l} s h e = record {
     here j f = rw f e
 
 module _ {r : List Corner} {k : ℕ} {lx hx ly hy : ℤ} (b : BoxOf r k lx hx ly hy) where
-  pub box-order : Box lx hx ly hy
-  box-order = record {
-    x-order = rw (b .low-x-is, b .high-x-is) (low-high (getD r k origin .x) (getD r (k + 1) origin .x));
-    y-order = rw (b .low-y-is, b .high-y-is) (low-high (getD r k origin .y) (getD r (k + 1) origin .y));
-  }
-
-  unmet : (j : ℕ) → away lx hx ly hy (getD r j origin) (getD r (j + 1) origin) ≡ true → meets (leg r k) (leg r j) ≡ false
-  unmet j e = away-apart (getD r k origin) (getD r (k + 1) origin) (getD r j origin) (getD r (j + 1) origin) (rw (b .low-x-is, b .high-x-is, b .low-y-is, b .high-y-is) at e)
+  -- an edge whose box is away does not meet
+  pub unmet : (c d : Corner) → away lx hx ly hy c d ≡ true → meets (leg r k) (c to d) ≡ false
+  unmet c d e = away-apart (getD r k origin) (getD r (k + 1) origin) c d (rw (b .low-x-is, b .high-x-is, b .low-y-is, b .high-y-is) at e)
 
   -- none before l meets, and those from l to before m are away
   pub skip-on : {start stop l m : ℕ} → Met-none r k start stop l → Skipped r lx hx ly hy l stop m → Met-none r k start stop m
   skip-on {start} {stop} {l} {m} s t = record {
     low = omega (arith, s .low, t .low);
     high = t .high;
-    none-met = λ j a c. elim (decLt j l) [ yes g ↦ s .none-met j a g | no g ↦ unmet j (t .skipped j (omega arith) c) ];
+    none-met = λ j a c. elim (decLt j l) [ yes g ↦ s .none-met j a g | no g ↦ unmet (getD r j origin) (getD r (j + 1) origin) (t .skipped j (omega arith) c) ];
   }

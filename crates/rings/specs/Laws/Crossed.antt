@@ -1,45 +1,32 @@
--- The search for the first crossed pair, lower edge by lower edge, and the pairs looked at. Assumes nothing.
-use mathlib.Core.Path.{_≡_, refl, sym, _∙_, ap, ap₂}
+-- The search for the first crossed pair, lower edge by lower edge. Assumes nothing.
+use mathlib.Core.Path.{_≡_, refl, sym, _∙_, ap}
 use mathlib.Core.Bool.{Bool, true, false}
 use mathlib.Core.Option.{Option, none, some}
 use mathlib.Core.List.{List}
-use Prim.Native.Nat.{ℕ, suc, _+_, _-_, _<_, _≤_}
+use Prim.Native.Nat.{ℕ, suc, _+_, _<_, _≤_}
 use native.Mathlib.Numerals.{add-one}
 use native.Mathlib.Omega.{arith}
 use lib.ListN.{length, drop, drop-of-length-le}
 use lib.Seq.{drop-cons}
 use borrow.Author.Tests.{lt-ltb, le-ltb}
 use Rattle.rules.specs.Refusals.{answered, crossed-at}
-use Rattle.rules.specs.Rings.{Corner, _to_, origin, edge, edges, EdgePair, pairs-from, edge-pairs, place}
+use Rattle.rules.specs.Rings.{Corner, _to_, origin, edge, edges, EdgePair, edge-pairs, place}
 use Rattle.rules.specs.RingAnswers.{looked-through, not-crossed}
 use Rattle.rules.specs.Crossing.{first-with, first-of, crossed}
 use Rattle.rules.specs.Laws.Edges.{length-edges}
-use Rattle.rules.specs.Laws.Looked.{pair-of, one-more, few, place-at}
+use Rattle.rules.specs.Laws.Looked.{pair-of}
 use Rattle.rules.specs.Laws.Pairs.{crossed-some}
 use Rattle.ring_pairs.specs.Crossings.{pair-at, pair-after}
 
--- the edges before edge k make no pair; `looked` pairs have one of them for their lower edge
-pub record Searched (r : List Corner) (k looked : ℕ) : Type 0 where
+-- the edges before edge k make no pair
+pub record Searched (r : List Corner) (k : ℕ) : Type 0 where
   pub left : crossed r ≡ first-of (length r) k (drop k (edges r))
-  pub counted : looked + length (edge-pairs (length r - k)) ≡ length (edge-pairs (length r))
 
-pub searched-start : (r : List Corner) → Searched r 0 0
+pub searched-start : (r : List Corner) → Searched r 0
 unfolding crossed
-searched-start r = record { left = refl; counted = let e = ap (λ (n : ℕ). length (edge-pairs n)) (all (length r)) in omega arith }
-  where
-    all : (n : ℕ) → n - 0 ≡ n
-    all n = omega arith
+searched-start r = record { left = refl }
 
--- one edge alone makes no pair
-none-left : length (edge-pairs 1) ≡ 0
-unfolding edge-pairs pairs-from
-none-left = one-more 0
-
-module _ {r : List Corner} {k looked : ℕ} (s : Searched r k looked) where
-  -- the count stays small
-  pub searched-few : length r ≤ 1024 → looked ≤ 523_776
-  searched-few h = let c = s .counted in let m = few (length r) h in omega arith
-
+module _ {r : List Corner} {k : ℕ} (s : Searched r k) where
   either : Option EdgePair → Option EdgePair
   either o = elim o [ some t ↦ some t | none ↦ first-of (length r) (suc k) (drop (suc k) (edges r)) ]
 
@@ -57,40 +44,24 @@ module _ {r : List Corner} {k looked : ℕ} (s : Searched r k looked) where
       pub hit-order : k < l
       hit-order = crossed-some r (pair-of k l) found .order
 
-      pub searched-hit : crossed-at (record { low = k; high = l; looked-at = looked + (l - k) }) ≡ not-crossed r
+      pub searched-hit : crossed-at (record { low = k; high = l; looked-at = place (pair-of k l) (edge-pairs (length r)) }) ≡ not-crossed r
       unfolding not-crossed
-      searched-hit = ap (λ (c : ℕ). crossed-at (record { low = k; high = l; looked-at = c })) place-is ∙ sym (ap (looked-through (length r)) found)
-        where
-          place-is : looked + (l - k) ≡ place (pair-of k l) (edge-pairs (length r))
-          place-is = let p = place-at (length r) k l hit-order g in let c = s .counted in omega arith
+      searched-hit = sym (ap (looked-through (length r)) found)
 
-    pub searched-miss : (last : ℕ) → last + 1 ≡ length r → length r ≤ l → Searched r (k + 1) (looked + (last - k))
+    pub searched-miss : length r ≤ l → Searched r (k + 1)
     unfolding either pair-at
-    searched-miss last n g = record {
+    searched-miss g = record {
       left = first h
           ∙ ap either (sym e ∙ ap (λ (t : Bool). elim t [ true ↦ some (record { low = k; high = l }) | false ↦ none ]) (le-ltb l (length r) g))
           ∙ ap (λ (i : ℕ). first-of (length r) i (drop i (edges r))) (sym (add-one k));
-      counted =
-          let c = s .counted in
-          let o = one-more (last - k) in
-          let p : length (edge-pairs (suc (last - k))) ≡ length (edge-pairs (length r - k)) = ap (λ (n : ℕ). length (edge-pairs n)) (omega arith) in
-          let q : length (edge-pairs (last - k)) ≡ length (edge-pairs (length r - (k + 1))) = ap (λ (n : ℕ). length (edge-pairs n)) (omega arith) in
-          omega arith;
     }
 
   -- the last edge makes no pair with a later one
-  pub searched-end : k + 1 ≡ length r → answered looked ≡ not-crossed r
+  pub searched-end : k + 1 ≡ length r → answered (length (edge-pairs (length r))) ≡ not-crossed r
   unfolding either first-of first-with pair-after not-crossed
   searched-end h =
       let n : length (edges r) ≤ suc k = (let e = length-edges r in omega arith) in
-      ap answered all-looked
-      ∙ sym (ap (looked-through (length r))
+      sym (ap (looked-through (length r))
       (first (omega arith)
       ∙ ap either (ap (first-with (length r) k (edge r k) (suc k)) (drop-of-length-le (edges r) n))
       ∙ ap (first-of (length r) (suc k)) (drop-of-length-le (edges r) n)))
-    where
-      all-looked : looked ≡ length (edge-pairs (length r))
-      all-looked =
-          let c = s .counted in
-          let e : length (edge-pairs (length r - k)) ≡ 0 = ap (λ (n : ℕ). length (edge-pairs n)) (omega arith) ∙ none-left in
-          omega arith

@@ -70,7 +70,8 @@ half (suc m) = sym (mul-div-cancel-left (length (edge-pairs (suc m))) (omega ari
     one-less : (m : ℕ) → m ≡ suc m - 1
     one-less m = omega arith
 
-grows : (m d : ℕ) → length (edge-pairs m) ≤ length (edge-pairs (m + d))
+-- more edges make no fewer pairs
+pub grows : (m d : ℕ) → length (edge-pairs m) ≤ length (edge-pairs (m + d))
 grows m zero = subst (λ (t : ℕ). length (edge-pairs m) ≤ length (edge-pairs t)) (sym (none-more m)) (le-refl (length (edge-pairs m)))
 grows m (suc d) =
     let e = one-more (m + d) in

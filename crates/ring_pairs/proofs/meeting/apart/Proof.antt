@@ -1,13 +1,11 @@
 -- By the smaller and the larger end. Assumes nothing.
-use mathlib.Core.Path.{_≡_, _∙_, ap}
-use lib.IntN.{ℤ}
-use lib.Signed.{_≤ℤ_}
+use mathlib.Core.Path.{_≡_, _∙_}
 use mir.Facts.{toZ-ofZ}
 use mir.Syntax.{w64}
 use mir.Val.{toZ, ofZ}
 use Rattle.rules.specs.RingAnswers.{smaller, larger}
 use Rattle.ring_corners.specs.Laws.Signed.{held}
-use Rattle.ring_pairs.specs.Laws.Crossings.{apart-is, low-high}
+use Rattle.ring_pairs.specs.Laws.Crossings.{apart-is}
 use borrow.Author.Needs.{needs}
 use Rattle.ring_pairs.proofs.meeting.apart.Statement.{statement}
 use Rattle.ring_pairs.proofs.meeting.apart.Tie as tie
@@ -29,7 +27,7 @@ greater-requires : tie.Need-greater-requires
 greater-requires c κs = search needs
 
 beyond-requires : tie.Need-beyond-requires
-beyond-requires c κs = rw (low-is c, high-is c) (low-high (c .before .before .args .a) (c .before .before .args .b))
+beyond-requires c κs = search needs
 
 returns : tie.Need-returns
 returns c =

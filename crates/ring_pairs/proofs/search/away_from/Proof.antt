@@ -7,6 +7,7 @@ use Rattle.ring_corners.specs.Corners.{pairs}
 use Rattle.ring_pairs.specs.Crossings.{outside}
 use Rattle.ring_corners.specs.Laws.Signed.{held}
 use Rattle.ring_pairs.specs.Laws.Crossings.{away-x, away-y}
+use borrow.Author.Needs.{needs}
 use Rattle.ring_pairs.proofs.search.away_from.Statement.{statement}
 use Rattle.ring_pairs.proofs.search.away_from.Tie as tie
 
@@ -29,25 +30,25 @@ by-y c =
     rw (toZ-ofZ (st .fits .low-y), toZ-ofZ (st .fits .high-y), held (record { sfits = c .before .before .y-at .ok }) (c .before .before .y-at .ensures), held (record { sfits = c .before .y-at2 .ok }) (c .before .y-at2 .ensures)) at (c .beyond2 .ensures)
 
 x-at-requires : tie.Need-x-at-requires
-x-at-requires c κs = c .pre .1
+x-at-requires c κs = c .pre .0
 
 x-at-requires-2 : tie.Need-x-at-requires-2
-x-at-requires-2 c κs = c .before .pre .2
+x-at-requires-2 c κs = c .before .pre .1
 
 beyond-requires : tie.Need-beyond-requires
-beyond-requires c κs = let st = c .before .before in rw (toZ-ofZ (st .fits .low-x), toZ-ofZ (st .fits .high-x)) (st .pre .0 .x-order)
+beyond-requires c κs = search needs
 
 returns : tie.Need-returns
 returns c = let st = c .before .before .before .before in sym (away-x (st .args .low-x) (st .args .high-x) (st .args .low-y) (st .args .high-y) (one st) (other st) (sym (by-x (c .before)) ∙ c .if1 .taken))
 
 y-at-requires : tie.Need-y-at-requires
-y-at-requires c κs = c .before .before .before .before .pre .1
+y-at-requires c κs = c .before .before .before .before .pre .0
 
 y-at-requires-2 : tie.Need-y-at-requires-2
-y-at-requires-2 c κs = c .before .before .before .before .before .pre .2
+y-at-requires-2 c κs = c .before .before .before .before .before .pre .1
 
 beyond-requires-2 : tie.Need-beyond-requires-2
-beyond-requires-2 c κs = let st = c .before .before .before .before .before .before in rw (toZ-ofZ (st .fits .low-y), toZ-ofZ (st .fits .high-y)) (st .pre .0 .y-order)
+beyond-requires-2 c κs = search needs
 
 returns-2 : tie.Need-returns-2
 returns-2 c =

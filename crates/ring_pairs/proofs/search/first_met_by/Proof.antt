@@ -7,7 +7,7 @@ use mir.Syntax.{w64}
 use mir.Val.{toZ, ofZ}
 use Rattle.ring_corners.specs.Corners.{pairs}
 use Rattle.ring_pairs.specs.Crossings.{BoxOf}
-use Rattle.ring_pairs.specs.Laws.Search.{Met-none, met-start, met-step, met-hit, met-end, box-order, skip-on}
+use Rattle.ring_pairs.specs.Laws.Search.{Met-none, met-start, met-step, met-hit, met-end, skip-on}
 use Rattle.ring_pairs.proofs.search.first_met_by.Statement.{statement}
 use Rattle.ring_pairs.proofs.search.first_met_by.Tie as tie
 
@@ -32,7 +32,7 @@ next-near-requires : tie.Need-next-near-requires Inv-loop μ-loop
 next-near-requires c κs =
     let st = c .before .before in
     let p = st .pre in
-    (box-order (boxed st), p .5, c .before .loop .inv .high, p .3, p .0 .at-most)
+    (p .5, c .before .loop .inv .high, p .3, p .0 .at-most)
 
 returns : tie.Need-returns Inv-loop μ-loop
 returns c = met-end (passed (c .before)) (c .if1 .taken)

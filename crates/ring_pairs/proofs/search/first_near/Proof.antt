@@ -18,20 +18,16 @@ abbrev μ-loop : tie.MeasureT-loop
 μ-loop corners low-x high-x low-y high-y start stop l₀ l = stop - l
 
 loop-holds : tie.Need-loop-holds Inv-loop μ-loop
-loop-holds c = skip-start _ _ _ _ _ _ _ (c .pre .1)
+loop-holds c = skip-start _ _ _ _ _ _ _ (c .pre .0)
 
 add-away-from : tie.Need-add-away-from Inv-loop μ-loop
-add-away-from c = let st = c .before .before in let t = c .loop-test .taken in let s = st .pre .2 in let m = st .pre .3 in omega arith
+add-away-from c = let st = c .before .before in let t = c .loop-test .taken in let s = st .pre .1 in let m = st .pre .2 in omega arith
 
 away-from-requires : tie.Need-away-from-requires Inv-loop μ-loop
-away-from-requires c κs =
-    let st = c .before .before in
-    let t = c .loop-test .taken in
-    let s = st .pre .2 in
-    (rw (toZ-ofZ (st .fits .low-x), toZ-ofZ (st .fits .high-x), toZ-ofZ (st .fits .low-y), toZ-ofZ (st .fits .high-y)) (st .pre .0), omega arith, omega arith)
+away-from-requires c κs = let t = c .loop-test .taken in let s = c .before .before .pre .1 in (omega arith, omega arith)
 
 add-l : tie.Need-add-l Inv-loop μ-loop
-add-l c = let st = c .before .before .before .before in let t = c .before .before .loop-test .taken in let s = st .pre .2 in let m = st .pre .3 in omega arith
+add-l c = let st = c .before .before .before .before in let t = c .before .before .loop-test .taken in let s = st .pre .1 in let m = st .pre .2 in omega arith
 
 loop-less : tie.Need-loop-less Inv-loop μ-loop
 loop-less c = let t = c .before .before .loop-test .taken in omega arith

@@ -12,7 +12,7 @@ away-from-requires c κs = search needs
 returns : tie.Need-returns
 returns c =
     let st = c .before .before in
-    rw (toZ-ofZ (st .fits .low-x), toZ-ofZ (st .fits .high-x), toZ-ofZ (st .fits .low-y), toZ-ofZ (st .fits .high-y)) at (skip-run (st .pre .1) (st .pre .2) (sym (c .before .away-from .ensures) ∙ c .if1 .taken))
+    rw (toZ-ofZ (st .fits .low-x), toZ-ofZ (st .fits .high-x), toZ-ofZ (st .fits .low-y), toZ-ofZ (st .fits .high-y)) at (skip-run (st .pre .0) (st .pre .1) (sym (c .before .away-from .ensures) ∙ c .if1 .taken))
 
 first-near-requires : tie.Need-first-near-requires
 first-near-requires c κs = search needs

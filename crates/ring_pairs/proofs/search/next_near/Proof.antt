@@ -7,7 +7,7 @@ use mir.Syntax.{w64}
 use mir.Val.{toZ, ofZ}
 use Rattle.ring_corners.specs.Corners.{pairs}
 use Rattle.ring_corners.specs.Laws.Flat.{count-half}
-use Rattle.ring_pairs.specs.Crossings.{Box, Skipped}
+use Rattle.ring_pairs.specs.Crossings.{Skipped}
 use Rattle.ring_pairs.specs.Laws.Search.{skip-start}
 use Rattle.ring_pairs.specs.Laws.Runs.{skip-join}
 use Rattle.ring_pairs.proofs.search.next_near.Statement.{statement}
@@ -19,11 +19,8 @@ Inv-loop corners lows highs low-x high-x low-y high-y start stop l₀ l = Skippe
 abbrev μ-loop : tie.MeasureT-loop
 μ-loop corners lows highs low-x high-x low-y high-y start stop l₀ l = stop - l
 
--- the box as a call hands it on, and the edges that are passed up to l
+-- edges that are passed, by the box as a call hands it on and as it is
 module _ (st : tie.Start Inv-loop μ-loop) where
-  box : Box (toZ w64 (ofZ w64 (st .args .low-x))) (toZ w64 (ofZ w64 (st .args .high-x))) (toZ w64 (ofZ w64 (st .args .low-y))) (toZ w64 (ofZ w64 (st .args .high-y)))
-  box = rw (toZ-ofZ (st .fits .low-x), toZ-ofZ (st .fits .high-x), toZ-ofZ (st .fits .low-y), toZ-ofZ (st .fits .high-y)) (st .pre .0)
-
   abbrev Passed : ℕ → Type 0
   Passed l = Skipped (pairs (st .args .corners .now)) (toZ w64 (ofZ w64 (st .args .low-x))) (toZ w64 (ofZ w64 (st .args .high-x))) (toZ w64 (ofZ w64 (st .args .low-y))) (toZ w64 (ofZ w64 (st .args .high-y))) (st .args .start) (st .args .stop) l
 
@@ -34,12 +31,12 @@ joined : (c : tie.After-near-in-run Inv-loop μ-loop) → Passed (c .before .bef
 joined c = skip-join (c .before .before .before .before .loop .inv) (c .near-in-run .ensures) (omega (arith, c .before .run-end .ensures .in-reach))
 
 loop-holds : tie.Need-loop-holds Inv-loop μ-loop
-loop-holds c = skip-start _ _ _ _ _ _ _ (c .pre .2)
+loop-holds c = skip-start _ _ _ _ _ _ _ (c .pre .1)
 
 first-near-requires : tie.Need-first-near-requires Inv-loop μ-loop
 first-near-requires c κs =
     let st = c .before .before .before in
-    (box st, c .before .before .loop .inv .high, st .pre .3, st .pre .4)
+    (c .before .before .loop .inv .high, st .pre .2, st .pre .3)
 
 returns : tie.Need-returns Inv-loop μ-loop
 returns c = let st = c .before .before .before .before in done st (skip-join (c .before .before .before .loop .inv) (c .first-near .ensures) (le-refl (st .args .stop)))
@@ -56,16 +53,15 @@ near-in-run-requires c κs =
     let f = c .before .if1 .left in
     let n = count-half (st .args .lows .now) in
     let e = c .run-end .ensures in
-    let s = st .pre .3 in (
-      box st,
-      st .pre .1,
+    let s = st .pre .2 in (
+      st .pre .0,
       record {
         has-box = omega arith;
         from-run = omega arith;
         in-order = omega (arith, e .whole l (omega arith) (omega arith));
         to-run = omega (arith, e .in-run);
         in-ring = omega (arith, e .in-reach);
-        at-most = st .pre .4;
+        at-most = st .pre .3;
       },
     )
 
