@@ -3,9 +3,11 @@
 --   Demand     demand 3 as a statement about the calls
 --   Corners    a flat list of numbers as corners; what an accepted ring has (of ring_corners)
 --   Standing   open or shut by the turning number
+--   Found      a pair of edges as one number
 --   Laws       laws; not needed to read the contracts
 pub use Rattle.ring_corners.specs.Corners
 pub mod Answers
 pub mod Standing
+pub mod Found
 pub mod Demand
 pub mod Laws

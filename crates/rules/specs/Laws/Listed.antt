@@ -8,7 +8,7 @@ use Prim.Native.Nat.{ℕ}
 use lib.Dec.{T, eqb, ltb, leb}
 use lib.IntN.{ℤ}
 use lib.ListN.{length, take}
-use Rattle.rules.specs.Refusals.{Answer, answered, refused, crossed-at, Passed, passed, _>>=_, _>>_, _if_, in-use, among, Listed}
+use Rattle.rules.specs.Refusals.{Answer, answered, refused, crossed-at, _>>=_, _>>_, _if_, in-use, among, Listed}
 use Rattle.rules.specs.Systems.{System, table, find, system, same-ellipsoid}
 use Rattle.rules.specs.Points.{Point, Ticks, latitude-bad, longitude-bad, plane-bad, forward-checks, inverse-checks, judged, Right-forward-by, Right-inverse-by, Right, plane-by}
 use Rattle.rules.specs.Rings.{Corner, EdgePair}

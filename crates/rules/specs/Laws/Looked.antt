@@ -1,14 +1,12 @@
 -- 02 (vii), the pairs of edges in their order: there are n(n-1)/2 of n edges (`half`); the place of each (`place-at`); and that the places follow the order of 01, by
 -- the lower edge and then by the higher (`in-order`, `only-in-order`). Assumes nothing.
 use mathlib.Core.Path.{_≡_, refl, sym, _∙_, ap, ap₂, subst}
-use mathlib.Core.Bool.{Bool, true, false, cond, _&&_}
-use mathlib.Core.Logic.{_⊎_, inl, inr, ⊎-elim}
-use mathlib.Core.List.{List, [], _∷_, _++_}
+use mathlib.Core.Logic.{_⊎_, inl, inr}
+use mathlib.Core.List.{List, _++_}
 use Prim.Native.Nat.{ℕ, zero, suc, _+_, _*_, _-_, _/_, _<_, _≤_}
 use native.Mathlib.Nat.{zero-add, le-refl, add-mul, mul-comm, mul-div-cancel-left}
 use native.Mathlib.Omega.{arith}
 use native.Mathlib.Decide.{decLt}
-use lib.Dec.{eqb}
 use lib.ListN.{length, length-append}
 use borrow.Author.Tests.{eq-eqb, ne-eqb}
 use Rattle.rules.specs.Rings.{EdgePair, pairs-with, pairs-from, edge-pairs, place}
@@ -160,7 +158,21 @@ module _ (n k l i j : ℕ) (h : k < l) (g : l < n) (f : i < j) (e : j < n) where
       omega (arith, a .0, a .1)
 
 pub only-in-order : (n k l i j : ℕ) → k < l → l < n → i < j → j < n → place (pair-of k l) (edge-pairs n) < place (pair-of i j) (edge-pairs n) → (k < i) ⊎ ((k ≡ i) × (l < j))
-only-in-order n k l i j h g f e p = elim (decLt k i) [ yes a ↦ inl a | no a ↦ elim (decLt i k) [ yes b ↦ absurd (let q = in-order n i j k l f e h g (inl b) in omega arith) | no b ↦ elim (decLt l j) [ yes c ↦ inr (omega arith, c) | no c ↦ absurd (not-after (omega arith) (omega arith)) ] ] ]
+only-in-order n k l i j h g f e p =
+    elim (decLt k i) [
+      | yes a ↦ inl a
+      | no a ↦ inr (same (omega arith), elim (decLt l j) [ yes b ↦ b | no b ↦ absurd (not-after (same (omega arith)) (omega arith)) ])
+    ]
   where
+    same : i ≤ k → k ≡ i
+    same a = elim (decLt i k) [ yes b ↦ absurd (let q = in-order n i j k l f e h g (inl b) in omega arith) | no b ↦ omega arith ]
+
+    places : k ≡ i → l ≡ j → place (pair-of k l) (edge-pairs n) ≡ place (pair-of i j) (edge-pairs n)
+    places a b = ap₂ (λ (x y : ℕ). place (pair-of x y) (edge-pairs n)) a b
+
     not-after : k ≡ i → j ≤ l → ⊥
-    not-after a b = elim (decLt j l) [ yes c ↦ (let q = in-order n i j k l f e h g (inr (sym a, c)) in absurd (omega arith)) | no c ↦ (let q : j ≡ l = omega arith in let r : place (pair-of k l) (edge-pairs n) ≡ place (pair-of i j) (edge-pairs n) = ap₂ (λ (x y : ℕ). place (pair-of x y) (edge-pairs n)) a (sym q) in absurd (omega arith)) ]
+    not-after a b =
+        elim (decLt j l) [
+          | yes c ↦ (let q = in-order n i j k l f e h g (inr (sym a, c)) in omega arith)
+          | no c ↦ (let q = places a (omega arith) in omega arith)
+        ]

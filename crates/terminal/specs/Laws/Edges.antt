@@ -1,6 +1,6 @@
 -- What refusal 9 carries fits an i64: its edges are numbers of the ring's own edges, and the pairs looked at are no more than those of 1,024 edges. So does the count of a
 -- clean ring. Assumes nothing.
-use mathlib.Core.Path.{_≡_, refl, sym, ap, _∙_}
+use mathlib.Core.Path.{_≡_, sym, ap, _∙_}
 use mathlib.Core.Logic.{⊎-elim}
 use mathlib.Core.List.{List}
 use Prim.Native.Nat.{ℕ, _<_, _≤_}
@@ -15,7 +15,7 @@ use Rattle.rules.specs.Rings.{Corner, edge-pairs}
 use Rattle.rules.specs.RingAnswers.{ring-checks, not-crossed, crossing-answer, nozzle, nozzle-answer}
 use Rattle.rules.specs.Laws.Looked.{half, few, place-most}
 use Rattle.rules.specs.Laws.RingChecks.{nine, clean}
-use Rattle.rings.specs.Corners.{pairs, Accepted}
+use Rattle.rings.specs.Corners.{pairs}
 use Rattle.rings.specs.Laws.Accept.{judgement}
 
 -- ---- a number below a million as an i64
