@@ -37,11 +37,16 @@ pub record InRun (r lows : List Corner) (m start stop : ℕ) : Type 0 where
   pub in-ring : stop < length r
   pub at-most : length r ≤ 1024
 
--- l is the first edge from number `start` to before number `stop` whose box is not away, or `stop`
+-- the edges from number `start` to before number l, which is `stop` at most, have their boxes away
 pub record Skipped (r : List Corner) (low-x high-x low-y high-y : ℤ) (start stop l : ℕ) : Type 0 where
   pub low : start ≤ l
   pub high : l ≤ stop
   pub skipped : (j : ℕ) → start ≤ j → j < l → away low-x high-x low-y high-y (getD r j origin) (getD r (j + 1) origin) ≡ true
+
+-- l is the first edge from number `start` to before number `stop` whose box is not away, or `stop`
+pub record FirstNear (r : List Corner) (low-x high-x low-y high-y : ℤ) (start stop l : ℕ) : Type 0 where
+  pub passed : Skipped r low-x high-x low-y high-y start stop l
+  pub near : l < stop → away low-x high-x low-y high-y (getD r l origin) (getD r (l + 1) origin) ≡ false
 
 -- neither edge lies to one side of the other's line
 unfoldable pub straddle : Corner → Corner → Corner → Corner → Bool

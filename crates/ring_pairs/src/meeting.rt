@@ -1,10 +1,10 @@
-// Whether two edges make a crossed pair. Boxes are compared before anything is multiplied.
+// The tests that tell whether two edges make a crossed pair: of their boxes, which multiplies nothing and comes first, and of their sides.
 ghost use mathlib.Core.Path.{_≡_};
-ghost use mathlib.Core.Bool.{_&&_, _||_, not};
+ghost use mathlib.Core.Bool.{_||_};
 ghost use lib.Signed.{ltZ};
 ghost use lib.IntN.{pos};
-ghost use Rattle.rules.specs.Rings.{_to_, D, isZero};
-ghost use Rattle.rules.specs.Crossing.{overlap, aside, meets, folds};
+ghost use Rattle.rules.specs.Rings.{_to_, D};
+ghost use Rattle.rules.specs.Crossing.{aside, folds};
 ghost use Rattle.ring_corners.specs.Corners.{corner};
 ghost use Rattle.ring_pairs.specs.Crossings.{outside, straddle, ahead, no-length, AllNear, RowNear};
 use ring_corners::sides;
@@ -34,13 +34,6 @@ pub fn beyond(low: i64, high: i64, c: i64, d: i64) -> bool
         ring_checks::lesser(c, d),
         ring_checks::greater(c, d),
     )
-}
-
-// Whether a-b and c-d have no number in common.
-fn apart(a: i64, b: i64, c: i64, d: i64) -> bool
-    ensures { λ r. ⌜ r ≡ not (overlap a b c d) ⌝ }
-{
-    beyond(ring_checks::lesser(a, b), ring_checks::greater(a, b), c, d)
 }
 
 // Whether two values of D have one sign, so that both points lie to one side.
@@ -73,7 +66,8 @@ fn both_aside(ax: i64, ay: i64, bx: i64, by: i64, cx: i64, cy: i64, dx: i64, dy:
     )
 }
 
-fn straddles(ax: i64, ay: i64, bx: i64, by: i64, cx: i64, cy: i64, dx: i64, dy: i64) -> bool
+// Whether neither of the edges a-b and c-d lies to one side of the other's line. Where their boxes touch, it says whether they share a point.
+pub fn straddles(ax: i64, ay: i64, bx: i64, by: i64, cx: i64, cy: i64, dx: i64, dy: i64) -> bool
     requires { ⌜ AllNear (corner ax ay) (corner bx by) (corner cx cy) (corner dx dy) × AllNear (corner cx cy) (corner dx dy) (corner ax ay) (corner bx by) ⌝ }
     ensures { λ r. ⌜ r ≡ straddle (corner ax ay) (corner bx by) (corner cx cy) (corner dx dy) ⌝ }
 {
@@ -84,20 +78,6 @@ fn straddles(ax: i64, ay: i64, bx: i64, by: i64, cx: i64, cy: i64, dx: i64, dy: 
         return false;
     }
     true
-}
-
-// Whether the edges a-b and c-d share a point.
-pub fn meet(ax: i64, ay: i64, bx: i64, by: i64, cx: i64, cy: i64, dx: i64, dy: i64) -> bool
-    requires { ⌜ AllNear (corner ax ay) (corner bx by) (corner cx cy) (corner dx dy) × AllNear (corner cx cy) (corner dx dy) (corner ax ay) (corner bx by) ⌝ }
-    ensures { λ r. ⌜ r ≡ meets (corner ax ay to corner bx by) (corner cx cy to corner dx dy) ⌝ }
-{
-    if apart(ax, bx, cx, dx) {
-        return false;
-    }
-    if apart(ay, by, cy, dy) {
-        return false;
-    }
-    straddles(ax, ay, bx, by, cx, cy, dx, dy)
 }
 
 fn same(ax: i64, ay: i64, bx: i64, by: i64) -> bool
@@ -135,25 +115,25 @@ fn runs_back(ax: i64, ay: i64, bx: i64, by: i64, cx: i64, cy: i64) -> bool
     false
 }
 
-// Whether b-c lies on the line a-b and runs back on it.
-fn doubles_back(ax: i64, ay: i64, bx: i64, by: i64, cx: i64, cy: i64) -> bool
+// Of three corners on one line: whether b-c runs back on a-b, or a-b has no length.
+fn straight_fold(ax: i64, ay: i64, bx: i64, by: i64, cx: i64, cy: i64) -> bool
     requires { ⌜ RowNear (corner ax ay) (corner bx by) (corner cx cy) ⌝ }
-    ensures { λ r. ⌜ r ≡ (isZero (D (corner ax ay) (corner bx by) (corner cx cy)) && ltZ (ahead (corner ax ay) (corner bx by) (corner cx cy)) (pos 0)) ⌝ }
-{
-    match sides::near_sign(ax, ay, bx, by, cx, cy) {
-        Sign::Positive => false,
-        Sign::Zero => runs_back(ax, ay, bx, by, cx, cy),
-        Sign::Negative => false,
-    }
-}
-
-// Whether the edge a-b and the edge b-c after it share more than b, or a-b has no length.
-pub fn fold(ax: i64, ay: i64, bx: i64, by: i64, cx: i64, cy: i64) -> bool
-    requires { ⌜ RowNear (corner ax ay) (corner bx by) (corner cx cy) ⌝ }
-    ensures { λ r. ⌜ r ≡ folds (corner ax ay to corner bx by) (corner bx by to corner cx cy) ⌝ }
+    ensures { λ r. ⌜ r ≡ (ltZ (ahead (corner ax ay) (corner bx by) (corner cx cy)) (pos 0) || no-length (corner ax ay) (corner bx by)) ⌝ }
 {
     if same(ax, ay, bx, by) {
         return true;
     }
-    doubles_back(ax, ay, bx, by, cx, cy)
+    runs_back(ax, ay, bx, by, cx, cy)
+}
+
+// Whether the edge a-b and the edge b-c after it share more than b, or a-b has no length. Either way the three corners are on one line, as few are: that is asked first.
+pub fn fold(ax: i64, ay: i64, bx: i64, by: i64, cx: i64, cy: i64) -> bool
+    requires { ⌜ RowNear (corner ax ay) (corner bx by) (corner cx cy) ⌝ }
+    ensures { λ r. ⌜ r ≡ folds (corner ax ay to corner bx by) (corner bx by to corner cx cy) ⌝ }
+{
+    match sides::near_sign(ax, ay, bx, by, cx, cy) {
+        Sign::Positive => false,
+        Sign::Zero => straight_fold(ax, ay, bx, by, cx, cy),
+        Sign::Negative => false,
+    }
 }

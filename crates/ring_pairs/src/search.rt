@@ -9,14 +9,14 @@ ghost use Rattle.rules.specs.Rings.{_to_, origin};
 ghost use Rattle.rules.specs.Crossing.{meets, folds};
 ghost use Rattle.ring_corners.specs.Corners.{pairs, Accepted};
 ghost use Rattle.ring_boxes.specs.Boxes.{Boxed};
-ghost use Rattle.ring_pairs.specs.Crossings.{away, BoxOf, InRun, Skipped, FirstMet, pair-at, pair-after};
+ghost use Rattle.ring_pairs.specs.Crossings.{away, straddle, BoxOf, InRun, FirstNear, FirstMet, pair-at, pair-after};
 use crate::meeting;
 use ring_corners::corners;
 
-// Whether the edges from corner i to j and from corner k to l share a point.
-fn meet_at(corners: &[i64], i: usize, j: usize, k: usize, l: usize) -> bool
+// Whether neither of the edges from corner i to j and from corner k to l lies to one side of the other's line.
+fn straddle_at(corners: &[i64], i: usize, j: usize, k: usize, l: usize) -> bool
     requires { ⌜ Accepted (now corners) × (i < length (pairs (now corners))) × (j < length (pairs (now corners))) × (k < length (pairs (now corners))) × (l < length (pairs (now corners))) ⌝ }
-    ensures { λ r. ⌜ r ≡ meets (getD (pairs (now (corners .entry))) i origin to getD (pairs (now (corners .entry))) j origin) (getD (pairs (now (corners .entry))) k origin to getD (pairs (now (corners .entry))) l origin) ⌝ }
+    ensures { λ r. ⌜ r ≡ straddle (getD (pairs (now (corners .entry))) i origin) (getD (pairs (now (corners .entry))) j origin) (getD (pairs (now (corners .entry))) k origin) (getD (pairs (now (corners .entry))) l origin) ⌝ }
 {
     let ax = corners::x_at(corners, i);
     let ay = corners::y_at(corners, i);
@@ -26,7 +26,7 @@ fn meet_at(corners: &[i64], i: usize, j: usize, k: usize, l: usize) -> bool
     let cy = corners::y_at(corners, k);
     let dx = corners::x_at(corners, l);
     let dy = corners::y_at(corners, l);
-    meeting::meet(ax, ay, bx, by, cx, cy, dx, dy)
+    meeting::straddles(ax, ay, bx, by, cx, cy, dx, dy)
 }
 
 // Whether the edge from corner i to j and the edge from corner j to k make a pair.
@@ -74,7 +74,7 @@ fn away_from(
     )
 }
 
-// Whether edge k, whose box is from low to high, and the edge from corner i to j share a point; by their boxes first.
+// Whether edge k, whose box is from low to high, and the edge from corner i to j share a point: by their boxes, and where these touch by their sides.
 fn meet_by_box(
     corners: &[i64],
     k: usize,
@@ -91,7 +91,7 @@ fn meet_by_box(
     if away_from(corners, i, corners, j, low_x, high_x, low_y, high_y) {
         return false;
     }
-    meet_at(corners, k, k + 1, i, j)
+    straddle_at(corners, k, k + 1, i, j)
 }
 
 // The first edge from number `start` to before number `stop` whose box is not away, or `stop`. Most pairs of edges end here, and nothing was multiplied.
@@ -105,7 +105,7 @@ fn first_near(
     stop: usize,
 ) -> usize
     requires { ⌜ (start ≤ stop) × (stop < length (pairs (now corners))) × (length (pairs (now corners)) ≤ 1024) ⌝ }
-    ensures { λ r. ⌜ Skipped (pairs (now (corners .entry))) «low_x» «high_x» «low_y» «high_y» start stop r ⌝ }
+    ensures { λ r. ⌜ FirstNear (pairs (now (corners .entry))) «low_x» «high_x» «low_y» «high_y» start stop r ⌝ }
 {
     let mut l = start;
     while l < stop {
@@ -132,7 +132,7 @@ fn near_in_run(
     stop: usize,
 ) -> usize
     requires { ⌜ Boxed (pairs (now corners)) (pairs (now lows)) (pairs (now highs)) × InRun (pairs (now corners)) (pairs (now lows)) m start stop ⌝ }
-    ensures { λ r. ⌜ Skipped (pairs (now (corners .entry))) «low_x» «high_x» «low_y» «high_y» start stop r ⌝ }
+    ensures { λ r. ⌜ FirstNear (pairs (now (corners .entry))) «low_x» «high_x» «low_y» «high_y» start stop r ⌝ }
 {
     if away_from(lows, m, highs, m, low_x, high_x, low_y, high_y) {
         return stop;
@@ -153,7 +153,7 @@ fn next_near(
     stop: usize,
 ) -> usize
     requires { ⌜ Boxed (pairs (now corners)) (pairs (now lows)) (pairs (now highs)) × (start ≤ stop) × (stop < length (pairs (now corners))) × (length (pairs (now corners)) ≤ 1024) ⌝ }
-    ensures { λ r. ⌜ Skipped (pairs (now (corners .entry))) «low_x» «high_x» «low_y» «high_y» start stop r ⌝ }
+    ensures { λ r. ⌜ FirstNear (pairs (now (corners .entry))) «low_x» «high_x» «low_y» «high_y» start stop r ⌝ }
 {
     let mut l = start;
     while l < stop {
@@ -203,7 +203,7 @@ fn first_met_by(
         if stop <= l {
             return l;
         }
-        if meet_at(corners, k, k + 1, l, l + 1) {
+        if straddle_at(corners, k, k + 1, l, l + 1) {
             return l;
         }
         l += 1;

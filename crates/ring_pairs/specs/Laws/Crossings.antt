@@ -5,6 +5,7 @@ use mathlib.Core.Logic.{_⊎_, inl, inr, ⊎-elim}
 use mathlib.Core.List.{List, [], _∷_}
 use Prim.Native.Nat.{ℕ, zero, suc}
 use native.Mathlib.Omega.{arith}
+use lib.Dec.{T}
 use lib.IntN.{ℤ, pos, _+ℤ_, _-ℤ_, _*ℤ_}
 use lib.Signed.{leZ, ltZ, _≤ℤ_, _<ℤ_, <ℤ-≤ℤ-trans}
 use Rattle.arith.specs.Laws.Diff.{_⊖_, Z·ℕ, lin}
@@ -13,6 +14,8 @@ use Rattle.rules.specs.Rings.{Corner, Edge, _to_, D, isZero}
 use Rattle.rules.specs.RingAnswers.{smaller, larger}
 use Rattle.rules.specs.Crossing.{before, overlap, aside, meets, folds}
 use Rattle.rules.specs.Laws.Checks.{ltZ-true, ltZ-false, or-true, or-false}
+use Rattle.rules.specs.Laws.Meeting.{T-and}
+use Rattle.rules.specs.Laws.Folding.{T-zero}
 use Rattle.ring_pairs.specs.Crossings.{outside, away, straddle, ahead, no-length}
 use Rattle.ring_corners.specs.Sides.{sign-of}
 use Rattle.ring_corners.specs.Laws.Sides.{leZ-true, leZ-false}
@@ -56,7 +59,7 @@ neither true y = refl
 neither false true = refl
 neither false false = refl
 
-pub apart-is : (a b c d : ℤ) → outside (smaller a b) (larger a b) c d ≡ not (overlap a b c d)
+apart-is : (a b c d : ℤ) → outside (smaller a b) (larger a b) c d ≡ not (overlap a b c d)
 unfolding outside overlap before
 apart-is a b c d =
     ap₂ _||_
@@ -133,13 +136,13 @@ module _ (a b c d : Corner) where
   unfolding meets straddle
   meets-is = refl
 
-  pub apart-in-x : not over-x ≡ true → meets (a to b) (c to d) ≡ false
+  apart-in-x : not over-x ≡ true → meets (a to b) (c to d) ≡ false
   apart-in-x e = meets-is ∙ and-left (straddle a b c d) (and-left over-y (not-yes over-x e))
 
-  pub apart-in-y : not over-y ≡ true → meets (a to b) (c to d) ≡ false
+  apart-in-y : not over-y ≡ true → meets (a to b) (c to d) ≡ false
   apart-in-y e = meets-is ∙ and-left (straddle a b c d) (and-right over-x (not-yes over-y e))
 
-  pub by-sides : not over-x ≡ false → not over-y ≡ false → meets (a to b) (c to d) ≡ straddle a b c d
+  by-sides : not over-x ≡ false → not over-y ≡ false → meets (a to b) (c to d) ≡ straddle a b c d
   by-sides e f = meets-is ∙ ap (λ (t : Bool). t && straddle a b c d) (and-true (not-no over-x e) (not-no over-y f))
 
 -- ---- an edge and the one after it
@@ -185,25 +188,42 @@ module _ (a b : Corner) where
   unfolding no-length
   none h k l m = and-true (same-zero (a .x) (b .x) h k) (same-zero (a .y) (b .y) l m)
 
-module _ (a b c : Corner) where
-  pub folds-none : no-length a b ≡ true → folds (a to b) (b to c) ≡ true
-  unfolding folds no-length ahead
-  folds-none e = or-true (isZero (D a b c) && ltZ (ahead a b c) (pos 0)) _ .1 (inr e)
+-- an edge of no length is on one line with every corner
+level : (a b c : Corner) → no-length a b ≡ true → D a b c ≡ pos 0
+unfolding no-length D
+level a b c e =
+    let t = T-and (isZero (b .x -ℤ a .x)) (isZero (b .y -ℤ a .y)) (subst T (sym e) tt) in
+    ap₂ (λ (u v : ℤ). u *ℤ (c .y -ℤ a .y) -ℤ (c .x -ℤ a .x) *ℤ v) (T-zero (b .x -ℤ a .x) (t .0)) (T-zero (b .y -ℤ a .y) (t .1)) ∙ nothing (c .y -ℤ a .y) (c .x -ℤ a .x)
+  where
+    nothing : (u v : ℤ) → pos 0 *ℤ u -ℤ v *ℤ pos 0 ≡ pos 0
+    nothing u v = lin (u ∷ v ∷ []) λ i j e1 e2. simp (Z·ℕ, e1, e2) (omega arith)
 
-  pub folds-back : no-length a b ≡ false → folds (a to b) (b to c) ≡ (isZero (D a b c) && ltZ (ahead a b c) (pos 0))
-  unfolding folds no-length ahead
-  folds-back e = ap (λ (t : Bool). (isZero (D a b c) && ltZ (ahead a b c) (pos 0)) || t) e ∙ or-none (isZero (D a b c) && ltZ (ahead a b c) (pos 0))
+module _ (a b c : Corner) where
+  pub straight-none : no-length a b ≡ true → (ltZ (ahead a b c) (pos 0) || no-length a b) ≡ true
+  straight-none e = or-true (ltZ (ahead a b c) (pos 0)) _ .1 (inr e)
+
+  pub straight-back : no-length a b ≡ false → (ltZ (ahead a b c) (pos 0) || no-length a b) ≡ ltZ (ahead a b c) (pos 0)
+  straight-back e = ap (λ (t : Bool). ltZ (ahead a b c) (pos 0) || t) e ∙ or-none (ltZ (ahead a b c) (pos 0))
     where
       or-none : (x : Bool) → (x || false) ≡ x
       or-none true = refl
       or-none false = refl
 
   -- by the sign of D
-  pub not-straight : (s : Sign) → sign-of (D a b c) ≡ s → zero-sign s ≡ false → (isZero (D a b c) && ltZ (ahead a b c) (pos 0)) ≡ false
-  not-straight s e f = and-left _ (zero-is (D a b c) ∙ ap zero-sign e ∙ f)
+  pub folds-straight : sign-of (D a b c) ≡ Zero → folds (a to b) (b to c) ≡ (ltZ (ahead a b c) (pos 0) || no-length a b)
+  unfolding folds no-length ahead
+  folds-straight e = rw (zero-is (D a b c) ∙ ap zero-sign e) refl
 
-  pub straight : sign-of (D a b c) ≡ Zero → (isZero (D a b c) && ltZ (ahead a b c) (pos 0)) ≡ ltZ (ahead a b c) (pos 0)
-  straight e = rw (zero-is (D a b c) ∙ ap zero-sign e) refl
+  pub folds-bent : (s : Sign) → sign-of (D a b c) ≡ s → zero-sign s ≡ false → folds (a to b) (b to c) ≡ false
+  unfolding folds no-length ahead
+  folds-bent s e f = or-false _ _ .1 (and-left _ bent, some-length (no-length a b) refl)
+    where
+      bent : isZero (D a b c) ≡ false
+      bent = zero-is (D a b c) ∙ ap zero-sign e ∙ f
+
+      some-length : (t : Bool) → no-length a b ≡ t → t ≡ false
+      some-length true g = absurd (subst T (sym (ap isZero (level a b c g)) ∙ bent) tt)
+      some-length false g = refl
 
 -- ---- boxes that are away
 pub away-x : (lx hx ly hy : ℤ) (c d : Corner) → outside lx hx (c .x) (d .x) ≡ true → away lx hx ly hy c d ≡ true
@@ -221,3 +241,10 @@ away-apart a b c d e = ⊎-elim
     (λ f. apart-in-x a b c d (sym (apart-is (a .x) (b .x) (c .x) (d .x)) ∙ f))
     (λ f. apart-in-y a b c d (sym (apart-is (a .y) (b .y) (c .y) (d .y)) ∙ f))
     (or-true _ _ .0 e)
+
+-- and of one that is not away the sides decide
+pub near-sides : (a b c d : Corner) → away (smaller (a .x) (b .x)) (larger (a .x) (b .x)) (smaller (a .y) (b .y)) (larger (a .y) (b .y)) c d ≡ false → meets (a to b) (c to d) ≡ straddle a b c d
+unfolding away
+near-sides a b c d e =
+    let f = or-false _ _ .0 e in
+    by-sides a b c d (sym (apart-is (a .x) (b .x) (c .x) (d .x)) ∙ f .0) (sym (apart-is (a .y) (b .y) (c .y) (d .y)) ∙ f .1)

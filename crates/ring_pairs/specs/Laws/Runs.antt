@@ -15,7 +15,7 @@ use Rattle.rules.specs.Rings.{Corner, origin}
 use Rattle.rules.specs.Laws.Checks.{ltZ-true, or-true}
 use Rattle.ring_corners.specs.Laws.Tests.{and-true}
 use Rattle.ring_boxes.specs.Boxes.{Inside, Boxed}
-use Rattle.ring_pairs.specs.Crossings.{outside, away, InRun, Skipped}
+use Rattle.ring_pairs.specs.Crossings.{outside, away, InRun, Skipped, FirstNear}
 
 both : (a b : Bool) → (a && b) ≡ true → (a ≡ true) × (b ≡ true)
 both true b e = (refl, e)
@@ -51,7 +51,7 @@ skip-run {r} {lows} {highs} {lx} {hx} {ly} {hy} {m} {start} {stop} b i e = recor
     inside-next : (j : ℕ) → start ≤ j → j < stop → Inside (getD lows m origin) (getD highs m origin) (getD r (j + 1) origin)
     inside-next j a c = b .boxes m (j + 1) (i .has-box) (omega (arith, i)) (omega (arith, i)) (omega (arith, i)) (omega (arith, i))
 
--- what was passed to l, and from there to before n
+-- what was passed as far as l, and from there as far as n
 pub skip-join : {r : List Corner} {lx hx ly hy : ℤ} {start stop end l n : ℕ} → Skipped r lx hx ly hy start stop l → Skipped r lx hx ly hy l end n → end ≤ stop
     → Skipped r lx hx ly hy start stop n
 skip-join {l} s t h = record {
@@ -59,3 +59,8 @@ skip-join {l} s t h = record {
   high = omega (arith, t .high);
   skipped = λ j a b. elim (decLt j l) [ yes g ↦ s .skipped j a g | no g ↦ t .skipped j (omega arith) b ];
 }
+
+-- the same, where n is the first that is near
+pub near-join : {r : List Corner} {lx hx ly hy : ℤ} {start stop end l n : ℕ} → Skipped r lx hx ly hy start stop l → FirstNear r lx hx ly hy l end n → end ≤ stop
+    → (n < stop → n < end) → FirstNear r lx hx ly hy start stop n
+near-join s t h g = record { passed = skip-join s (t .passed) h; near = λ p. t .near (g p) }

@@ -15,8 +15,8 @@ use borrow.Author.Tests.{eq-eqb, ne-eqb, lt-ltb, le-ltb}
 use Rattle.rules.specs.Rings.{Corner, Edge, _to_, origin, edge, edges, EdgePair}
 use Rattle.rules.specs.Crossing.{meets, folds, bad, first-with}
 use Rattle.rules.specs.Laws.Edges.{length-edges, edge-at, edge-last}
-use Rattle.ring_pairs.specs.Crossings.{away, BoxOf, Skipped, FirstMet, pair-at, pair-after}
-use Rattle.ring_pairs.specs.Laws.Crossings.{away-apart}
+use Rattle.ring_pairs.specs.Crossings.{away, straddle, BoxOf, Skipped, FirstNear, FirstMet, pair-at, pair-after}
+use Rattle.ring_pairs.specs.Laws.Crossings.{away-apart, near-sides}
 use Rattle.ring_corners.specs.Laws.Tests.{and-left, and-right}
 
 -- ---- the edges of a ring
@@ -243,10 +243,18 @@ skip-step {r} {lx} {hx} {ly} {hy} {start} {stop} {l} s h e = record {
     here : (j : ℕ) → j ≡ l → away lx hx ly hy (getD r j origin) (getD r (j + 1) origin) ≡ true
     here j f = rw f e
 
+-- none is near
+pub skip-end : {r : List Corner} {lx hx ly hy : ℤ} {start stop l : ℕ} → Skipped r lx hx ly hy start stop l → stop ≤ l → FirstNear r lx hx ly hy start stop l
+skip-end s h = record { passed = s; near = λ g. absurd (omega arith) }
+
 module _ {r : List Corner} {k : ℕ} {lx hx ly hy : ℤ} (b : BoxOf r k lx hx ly hy) where
   -- an edge whose box is away does not meet
   pub unmet : (c d : Corner) → away lx hx ly hy c d ≡ true → meets (leg r k) (c to d) ≡ false
   unmet c d e = away-apart (getD r k origin) (getD r (k + 1) origin) c d (rw (b .low-x-is, b .high-x-is, b .low-y-is, b .high-y-is) at e)
+
+  -- of one that is not away the sides decide
+  pub by-sides : (c d : Corner) → away lx hx ly hy c d ≡ false → straddle (getD r k origin) (getD r (k + 1) origin) c d ≡ meets (leg r k) (c to d)
+  by-sides c d e = sym (near-sides (getD r k origin) (getD r (k + 1) origin) c d (rw (b .low-x-is, b .high-x-is, b .low-y-is, b .high-y-is) at e))
 
   -- none before l meets, and those from l to before m are away
   pub skip-on : {start stop l m : ℕ} → Met-none r k start stop l → Skipped r lx hx ly hy l stop m → Met-none r k start stop m

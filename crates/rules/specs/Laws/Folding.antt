@@ -20,7 +20,7 @@ use Rattle.rules.specs.Laws.Meeting.{T-and, and-T, T-or, or-T, gone}
 zero-T : (z : ℤ) → z ≡ pos 0 → T (isZero z)
 zero-T z e = subst (λ (t : ℤ). T (isZero t)) (sym e) tt
 
-T-zero : (z : ℤ) → T (isZero z) → z ≡ pos 0
+pub T-zero : (z : ℤ) → T (isZero z) → z ≡ pos 0
 T-zero z t = let s = T-and (leZ z (pos 0)) (leZ (pos 0) z) t in ≤ℤ-antisym (leZ-yes (s .0)) (leZ-yes (s .1))
 
 -- ---- numbers: d = b - a, g = c - b; D = d·d and G = d·g. On one line, D g = G d

@@ -1,13 +1,14 @@
 -- No edge that was passed meets edge k. Assumes nothing.
-use mathlib.Core.Path.{sym, _∙_}
+use mathlib.Core.Path.{_≡_, sym, _∙_}
 use Prim.Native.Nat.{_-_}
 use native.Mathlib.Omega.{arith}
 use mir.Facts.{toZ-ofZ}
 use mir.Syntax.{w64}
 use mir.Val.{toZ, ofZ}
+use Rattle.rules.specs.Crossing.{meets}
 use Rattle.ring_corners.specs.Corners.{pairs}
 use Rattle.ring_pairs.specs.Crossings.{BoxOf}
-use Rattle.ring_pairs.specs.Laws.Search.{Met-none, met-start, met-step, met-hit, met-end, skip-on}
+use Rattle.ring_pairs.specs.Laws.Search.{Met-none, met-start, met-step, met-hit, met-end, leg, by-sides, skip-on}
 use Rattle.ring_pairs.proofs.search.first_met_by.Statement.{statement}
 use Rattle.ring_pairs.proofs.search.first_met_by.Tie as tie
 
@@ -23,7 +24,12 @@ boxed st = rw (toZ-ofZ (st .fits .low-x), toZ-ofZ (st .fits .high-x), toZ-ofZ (s
 
 -- as far as the next edge that is near
 passed : (c : tie.After-next-near Inv-loop μ-loop) → Met-none (pairs (c .before .before .before .args .corners .now)) (c .before .before .before .args .k) (c .before .before .before .args .start) (c .before .before .before .args .stop) (c .next-near .result)
-passed c = skip-on (boxed (c .before .before .before)) (c .before .before .loop .inv) (c .next-near .ensures)
+passed c = skip-on (boxed (c .before .before .before)) (c .before .before .loop .inv) (c .next-near .ensures .passed)
+
+-- that edge's test is of the sides alone
+met : (c : tie.After-straddle-at Inv-loop μ-loop)
+    → meets (leg (pairs (c .before .before .before .before .before .args .corners .now)) (c .before .before .before .before .before .args .k)) (leg (pairs (c .before .before .before .before .before .args .corners .now)) (c .before .before .next-near .result)) ≡ c .straddle-at .result
+met c = sym (c .straddle-at .ensures ∙ by-sides (boxed (c .before .before .before .before .before)) _ _ (c .before .before .next-near .ensures .near (c .before .if1 .left)))
 
 loop-holds : tie.Need-loop-holds Inv-loop μ-loop
 loop-holds c = met-start (pairs (c .args .corners .now)) (c .args .k) (c .args .start) (c .args .stop) (c .pre .2)
@@ -37,14 +43,14 @@ next-near-requires c κs =
 returns : tie.Need-returns Inv-loop μ-loop
 returns c = met-end (passed (c .before)) (c .if1 .taken)
 
-add-meet-at : tie.Need-add-meet-at Inv-loop μ-loop
-add-meet-at c = let p = c .before .before .before .before .pre in let m = p .0 .at-most in let h = p .1 in omega arith
+add-straddle-at : tie.Need-add-straddle-at Inv-loop μ-loop
+add-straddle-at c = let p = c .before .before .before .before .pre in let m = p .0 .at-most in let h = p .1 in omega arith
 
-add-meet-at-2 : tie.Need-add-meet-at-2 Inv-loop μ-loop
-add-meet-at-2 c = let p = c .before .before .before .before .pre in let m = p .0 .at-most in let h = p .3 in let t = c .if1 .left in omega arith
+add-straddle-at-2 : tie.Need-add-straddle-at-2 Inv-loop μ-loop
+add-straddle-at-2 c = let p = c .before .before .before .before .pre in let m = p .0 .at-most in let h = p .3 in let t = c .if1 .left in omega arith
 
-meet-at-requires : tie.Need-meet-at-requires Inv-loop μ-loop
-meet-at-requires c κs =
+straddle-at-requires : tie.Need-straddle-at-requires Inv-loop μ-loop
+straddle-at-requires c κs =
     let p = c .before .before .before .before .pre in
     let k = p .1 in
     let s = p .3 in
@@ -52,7 +58,7 @@ meet-at-requires c κs =
     (p .0, omega arith, k, omega arith, omega arith)
 
 returns-2 : tie.Need-returns-2 Inv-loop μ-loop
-returns-2 c = met-hit (passed (c .before .before .before)) (sym (c .before .meet-at .ensures) ∙ c .if2 .taken)
+returns-2 c = met-hit (passed (c .before .before .before)) (met (c .before) ∙ c .if2 .taken)
 
 add-l : tie.Need-add-l Inv-loop μ-loop
 add-l c = let p = c .before .before .before .before .before .before .pre in let m = p .0 .at-most in let h = p .3 in let t = c .before .before .if1 .left in omega arith
@@ -60,12 +66,12 @@ add-l c = let p = c .before .before .before .before .before .before .pre in let 
 loop-less : tie.Need-loop-less Inv-loop μ-loop
 loop-less c =
     let t = c .before .before .if1 .left in
-    let g = c .before .before .before .next-near .ensures .low in
+    let g = c .before .before .before .next-near .ensures .passed .low in
     let h = c .before .before .before .before .loop-test .taken in
     omega arith
 
 loop-again : tie.Need-loop-again Inv-loop μ-loop
-loop-again c = met-step (passed (c .before .before .before)) (c .before .before .if1 .left) (sym (c .before .meet-at .ensures) ∙ c .if2 .left)
+loop-again c = met-step (passed (c .before .before .before)) (c .before .before .if1 .left) (met (c .before) ∙ c .if2 .left)
 
 returns-3 : tie.Need-returns-3 Inv-loop μ-loop
 returns-3 c = met-end (c .before .loop .inv) (c .loop-test .left)
@@ -79,9 +85,9 @@ first-met-by-spec =
     loop-holds
     next-near-requires
     returns
-    add-meet-at
-    add-meet-at-2
-    meet-at-requires
+    add-straddle-at
+    add-straddle-at-2
+    straddle-at-requires
     returns-2
     add-l
     loop-less

@@ -1,13 +1,13 @@
 -- Every edge that was passed has its box away. Assumes nothing.
 use mathlib.Core.Path.{sym, _∙_}
-use Prim.Native.Nat.{_-_}
+use Prim.Native.Nat.{ℕ, _-_}
 use native.Mathlib.Omega.{arith}
 use mir.Facts.{toZ-ofZ}
 use mir.Syntax.{w64}
-use mir.Val.{toZ}
+use mir.Val.{toZ, ofZ}
 use Rattle.ring_corners.specs.Corners.{pairs}
-use Rattle.ring_pairs.specs.Crossings.{Skipped}
-use Rattle.ring_pairs.specs.Laws.Search.{skip-start, skip-step}
+use Rattle.ring_pairs.specs.Crossings.{Skipped, FirstNear}
+use Rattle.ring_pairs.specs.Laws.Search.{skip-start, skip-step, skip-end}
 use Rattle.ring_pairs.proofs.search.first_near.Statement.{statement}
 use Rattle.ring_pairs.proofs.search.first_near.Tie as tie
 
@@ -35,11 +35,21 @@ loop-less c = let t = c .before .before .loop-test .taken in omega arith
 loop-again : tie.Need-loop-again Inv-loop μ-loop
 loop-again c = skip-step (c .before .before .before .loop .inv) (c .before .before .loop-test .taken) (sym (c .before .away-from .ensures) ∙ c .if1 .taken)
 
+-- by the box as it is
+module _ (st : tie.Start Inv-loop μ-loop) where
+  abbrev First : ℕ → Type 0
+  First l = FirstNear (pairs (st .args .corners .now)) (toZ w64 (ofZ w64 (st .args .low-x))) (toZ w64 (ofZ w64 (st .args .high-x))) (toZ w64 (ofZ w64 (st .args .low-y))) (toZ w64 (ofZ w64 (st .args .high-y))) (st .args .start) (st .args .stop) l
+
+  done : {l : ℕ} → First l → FirstNear (pairs (st .args .corners .now)) (st .args .low-x) (st .args .high-x) (st .args .low-y) (st .args .high-y) (st .args .start) (st .args .stop) l
+  done s = rw (toZ-ofZ (st .fits .low-x), toZ-ofZ (st .fits .high-x), toZ-ofZ (st .fits .low-y), toZ-ofZ (st .fits .high-y)) at s
+
 returns : tie.Need-returns Inv-loop μ-loop
-returns c = let st = c .before .before .before .before in rw (toZ-ofZ (st .fits .low-x), toZ-ofZ (st .fits .high-x), toZ-ofZ (st .fits .low-y), toZ-ofZ (st .fits .high-y)) at (c .before .before .before .loop .inv)
+returns c =
+    let t = c .before .before .before in
+    done (t .before) (record { passed = t .loop .inv; near = λ h. sym (c .before .away-from .ensures) ∙ c .if1 .left })
 
 returns-2 : tie.Need-returns-2 Inv-loop μ-loop
-returns-2 c = let st = c .before .before in rw (toZ-ofZ (st .fits .low-x), toZ-ofZ (st .fits .high-x), toZ-ofZ (st .fits .low-y), toZ-ofZ (st .fits .high-y)) at (c .before .loop .inv)
+returns-2 c = done (c .before .before) (skip-end (c .before .loop .inv) (c .loop-test .left))
 
 pub first-near-spec : {M : Type 1} → statement M
 first-near-spec =

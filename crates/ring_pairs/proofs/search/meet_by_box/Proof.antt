@@ -1,4 +1,4 @@
--- Boxes that are away, or the test itself. Assumes nothing.
+-- Boxes that are away, or else the sides. Assumes nothing.
 use mathlib.Core.Path.{sym, _∙_}
 use native.Mathlib.Omega.{arith}
 use lib.ListN.{getD}
@@ -8,7 +8,7 @@ use mir.Val.{toZ, ofZ}
 use Rattle.rules.specs.Rings.{origin}
 use Rattle.ring_corners.specs.Corners.{pairs}
 use Rattle.ring_pairs.specs.Crossings.{BoxOf}
-use Rattle.ring_pairs.specs.Laws.Search.{unmet}
+use Rattle.ring_pairs.specs.Laws.Search.{unmet, by-sides}
 use borrow.Author.Needs.{needs}
 use Rattle.ring_pairs.proofs.search.meet_by_box.Statement.{statement}
 use Rattle.ring_pairs.proofs.search.meet_by_box.Tie as tie
@@ -26,14 +26,16 @@ returns c =
     let r = pairs (st .args .corners .now) in
     sym (unmet (boxed st) (getD r (st .args .i) origin) (getD r (st .args .j) origin) (sym (c .before .away-from .ensures) ∙ c .if1 .taken))
 
-add-meet-at : tie.Need-add-meet-at
-add-meet-at c = let p = c .before .before .pre in let m = p .0 .at-most in let h = p .1 in omega arith
+add-straddle-at : tie.Need-add-straddle-at
+add-straddle-at c = let p = c .before .before .pre in let m = p .0 .at-most in let h = p .1 in omega arith
 
-meet-at-requires : tie.Need-meet-at-requires
-meet-at-requires c κs = let p = c .before .before .pre in let k = p .1 in (p .0, omega arith, k, p .2, p .3)
+straddle-at-requires : tie.Need-straddle-at-requires
+straddle-at-requires c κs = let p = c .before .before .pre in let k = p .1 in (p .0, omega arith, k, p .2, p .3)
 
 returns-2 : tie.Need-returns-2
-returns-2 c = search needs
+returns-2 c =
+    let t = c .before .before in
+    c .straddle-at .ensures ∙ by-sides (boxed (t .before)) _ _ (sym (t .away-from .ensures) ∙ c .before .if1 .left)
 
 pub meet-by-box-spec : {M : Type 1} → statement M
-meet-by-box-spec = tie.close (tie.spec away-from-requires returns add-meet-at meet-at-requires returns-2)
+meet-by-box-spec = tie.close (tie.spec away-from-requires returns add-straddle-at straddle-at-requires returns-2)

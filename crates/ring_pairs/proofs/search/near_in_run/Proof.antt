@@ -1,6 +1,8 @@
 -- A run whose box is away is passed whole. Assumes nothing.
 use mathlib.Core.Path.{sym, _∙_}
+use native.Mathlib.Nat.{le-refl}
 use mir.Facts.{toZ-ofZ}
+use Rattle.ring_pairs.specs.Laws.Search.{skip-end}
 use Rattle.ring_pairs.specs.Laws.Runs.{skip-run}
 use borrow.Author.Needs.{needs}
 use Rattle.ring_pairs.proofs.search.near_in_run.Statement.{statement}
@@ -12,7 +14,7 @@ away-from-requires c κs = search needs
 returns : tie.Need-returns
 returns c =
     let st = c .before .before in
-    rw (toZ-ofZ (st .fits .low-x), toZ-ofZ (st .fits .high-x), toZ-ofZ (st .fits .low-y), toZ-ofZ (st .fits .high-y)) at (skip-run (st .pre .0) (st .pre .1) (sym (c .before .away-from .ensures) ∙ c .if1 .taken))
+    rw (toZ-ofZ (st .fits .low-x), toZ-ofZ (st .fits .high-x), toZ-ofZ (st .fits .low-y), toZ-ofZ (st .fits .high-y)) at (skip-end (skip-run (st .pre .0) (st .pre .1) (sym (c .before .away-from .ensures) ∙ c .if1 .taken)) (le-refl (st .args .stop)))
 
 first-near-requires : tie.Need-first-near-requires
 first-near-requires c κs = search needs

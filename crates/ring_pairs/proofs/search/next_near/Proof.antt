@@ -7,9 +7,9 @@ use mir.Syntax.{w64}
 use mir.Val.{toZ, ofZ}
 use Rattle.ring_corners.specs.Corners.{pairs}
 use Rattle.ring_corners.specs.Laws.Flat.{count-half}
-use Rattle.ring_pairs.specs.Crossings.{Skipped}
-use Rattle.ring_pairs.specs.Laws.Search.{skip-start}
-use Rattle.ring_pairs.specs.Laws.Runs.{skip-join}
+use Rattle.ring_pairs.specs.Crossings.{Skipped, FirstNear}
+use Rattle.ring_pairs.specs.Laws.Search.{skip-start, skip-end}
+use Rattle.ring_pairs.specs.Laws.Runs.{skip-join, near-join}
 use Rattle.ring_pairs.proofs.search.next_near.Statement.{statement}
 use Rattle.ring_pairs.proofs.search.next_near.Tie as tie
 
@@ -19,16 +19,13 @@ Inv-loop corners lows highs low-x high-x low-y high-y start stop l₀ l = Skippe
 abbrev μ-loop : tie.MeasureT-loop
 μ-loop corners lows highs low-x high-x low-y high-y start stop l₀ l = stop - l
 
--- edges that are passed, by the box as a call hands it on and as it is
+-- by the box as a call hands it on, and as it is
 module _ (st : tie.Start Inv-loop μ-loop) where
-  abbrev Passed : ℕ → Type 0
-  Passed l = Skipped (pairs (st .args .corners .now)) (toZ w64 (ofZ w64 (st .args .low-x))) (toZ w64 (ofZ w64 (st .args .high-x))) (toZ w64 (ofZ w64 (st .args .low-y))) (toZ w64 (ofZ w64 (st .args .high-y))) (st .args .start) (st .args .stop) l
+  abbrev First : ℕ → Type 0
+  First l = FirstNear (pairs (st .args .corners .now)) (toZ w64 (ofZ w64 (st .args .low-x))) (toZ w64 (ofZ w64 (st .args .high-x))) (toZ w64 (ofZ w64 (st .args .low-y))) (toZ w64 (ofZ w64 (st .args .high-y))) (st .args .start) (st .args .stop) l
 
-  done : {l : ℕ} → Passed l → Skipped (pairs (st .args .corners .now)) (st .args .low-x) (st .args .high-x) (st .args .low-y) (st .args .high-y) (st .args .start) (st .args .stop) l
+  done : {l : ℕ} → First l → FirstNear (pairs (st .args .corners .now)) (st .args .low-x) (st .args .high-x) (st .args .low-y) (st .args .high-y) (st .args .start) (st .args .stop) l
   done s = rw (toZ-ofZ (st .fits .low-x), toZ-ofZ (st .fits .high-x), toZ-ofZ (st .fits .low-y), toZ-ofZ (st .fits .high-y)) at s
-
-joined : (c : tie.After-near-in-run Inv-loop μ-loop) → Passed (c .before .before .before .before .before) (c .near-in-run .result)
-joined c = skip-join (c .before .before .before .before .loop .inv) (c .near-in-run .ensures) (omega (arith, c .before .run-end .ensures .in-reach))
 
 loop-holds : tie.Need-loop-holds Inv-loop μ-loop
 loop-holds c = skip-start _ _ _ _ _ _ _ (c .pre .1)
@@ -39,7 +36,7 @@ first-near-requires c κs =
     (c .before .before .loop .inv .high, st .pre .2, st .pre .3)
 
 returns : tie.Need-returns Inv-loop μ-loop
-returns c = let st = c .before .before .before .before in done st (skip-join (c .before .before .before .loop .inv) (c .first-near .ensures) (le-refl (st .args .stop)))
+returns c = let st = c .before .before .before .before in done st (near-join (c .before .before .before .loop .inv) (c .first-near .ensures) (le-refl (st .args .stop)) (λ h. h))
 
 run-end-requires : tie.Need-run-end-requires Inv-loop μ-loop
 run-end-requires c κs = let p = c .before .before .before .pre in let t = c .before .loop-test .taken in omega arith
@@ -66,7 +63,9 @@ near-in-run-requires c κs =
     )
 
 returns-2 : tie.Need-returns-2 Inv-loop μ-loop
-returns-2 c = done (c .before .before .before .before .before .before) (joined (c .before))
+returns-2 c =
+    let t = c .before in
+    done (t .before .before .before .before .before) (near-join (t .before .before .before .before .loop .inv) (t .near-in-run .ensures) (t .before .run-end .ensures .in-reach) (λ h. c .if2 .taken))
 
 loop-less : tie.Need-loop-less Inv-loop μ-loop
 loop-less c =
@@ -78,10 +77,10 @@ loop-less c =
     omega arith
 
 loop-again : tie.Need-loop-again Inv-loop μ-loop
-loop-again c = joined (c .before)
+loop-again c = let t = c .before in skip-join (t .before .before .before .before .loop .inv) (t .near-in-run .ensures .passed) (t .before .run-end .ensures .in-reach)
 
 returns-3 : tie.Need-returns-3 Inv-loop μ-loop
-returns-3 c = done (c .before .before) (c .before .loop .inv)
+returns-3 c = done (c .before .before) (skip-end (c .before .loop .inv) (c .loop-test .left))
 
 pub next-near-spec : {M : Type 1} → statement M
 next-near-spec =

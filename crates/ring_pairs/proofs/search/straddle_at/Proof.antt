@@ -6,8 +6,8 @@ use Rattle.rules.specs.Rings.{Corner, origin}
 use Rattle.ring_corners.specs.Corners.{pairs}
 use Rattle.ring_pairs.specs.Laws.Nearness.{all-near}
 use Rattle.ring_corners.specs.Laws.Signed.{held, made, raw}
-use Rattle.ring_pairs.proofs.search.meet_at.Statement.{statement}
-use Rattle.ring_pairs.proofs.search.meet_at.Tie as tie
+use Rattle.ring_pairs.proofs.search.straddle_at.Statement.{statement}
+use Rattle.ring_pairs.proofs.search.straddle_at.Tie as tie
 
 -- the corners that were read
 module _ (c : tie.After-y-at4) where
@@ -53,16 +53,16 @@ x-at-requires-4 c κs = c .before .before .before .before .before .before .pre .
 y-at-requires-4 : tie.Need-y-at-requires-4
 y-at-requires-4 c κs = c .before .before .before .before .before .before .before .pre .4
 
-meet-requires : tie.Need-meet-requires
-meet-requires c κs =
+straddles-requires : tie.Need-straddles-requires
+straddles-requires c κs =
     let a = st c .pre in
     rw (at-i c, at-j c, at-k c, at-l c) (all-near (a .0) (a .1) (a .2) (a .3) (a .4), all-near (a .0) (a .3) (a .4) (a .1) (a .2))
 
 returns : tie.Need-returns
-returns c = rw (at-i (c .before), at-j (c .before), at-k (c .before), at-l (c .before)) at (c .meet .ensures)
+returns c = rw (at-i (c .before), at-j (c .before), at-k (c .before), at-l (c .before)) at (c .straddles .ensures)
 
-pub meet-at-spec : {M : Type 1} → statement M
-meet-at-spec =
+pub straddle-at-spec : {M : Type 1} → statement M
+straddle-at-spec =
     tie.close
     (tie.spec
     x-at-requires
@@ -73,5 +73,5 @@ meet-at-spec =
     y-at-requires-3
     x-at-requires-4
     y-at-requires-4
-    meet-requires
+    straddles-requires
     returns)
