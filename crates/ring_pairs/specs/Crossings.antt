@@ -28,25 +28,16 @@ pub record BoxOf (r : List Corner) (k : ℕ) (low-x high-x low-y high-y : ℤ) :
   pub low-y-is : low-y ≡ smaller (getD r k origin .y) (getD r (k + 1) origin .y)
   pub high-y-is : high-y ≡ larger (getD r k origin .y) (getD r (k + 1) origin .y)
 
--- the edges from number `start` to before number `stop` are of run m, which has a box
-pub record InRun (r lows : List Corner) (m start stop : ℕ) : Type 0 where
-  pub has-box : m < length lows
-  pub from-run : 16 * m ≤ start
-  pub in-order : start ≤ stop
-  pub to-run : stop ≤ 16 * m + 16
-  pub in-ring : stop < length r
-  pub at-most : length r ≤ 1024
-
--- the edges from number `start` to before number l, which is `stop` at most, have their boxes away
-pub record Skipped (r : List Corner) (low-x high-x low-y high-y : ℤ) (start stop l : ℕ) : Type 0 where
+-- at the numbers from `start` to before l, which is `stop` at most, the box of a corner of one list and of the corner `shift` numbers on of another is away
+pub record Skipped (first second : List Corner) (shift : ℕ) (low-x high-x low-y high-y : ℤ) (start stop l : ℕ) : Type 0 where
   pub low : start ≤ l
   pub high : l ≤ stop
-  pub skipped : (j : ℕ) → start ≤ j → j < l → away low-x high-x low-y high-y (getD r j origin) (getD r (j + 1) origin) ≡ true
+  pub skipped : (j : ℕ) → start ≤ j → j < l → away low-x high-x low-y high-y (getD first j origin) (getD second (j + shift) origin) ≡ true
 
--- l is the first edge from number `start` to before number `stop` whose box is not away, or `stop`
-pub record FirstNear (r : List Corner) (low-x high-x low-y high-y : ℤ) (start stop l : ℕ) : Type 0 where
-  pub passed : Skipped r low-x high-x low-y high-y start stop l
-  pub near : l < stop → away low-x high-x low-y high-y (getD r l origin) (getD r (l + 1) origin) ≡ false
+-- l is the first such number at which it is not, or `stop`
+pub record FirstNear (first second : List Corner) (shift : ℕ) (low-x high-x low-y high-y : ℤ) (start stop l : ℕ) : Type 0 where
+  pub passed : Skipped first second shift low-x high-x low-y high-y start stop l
+  pub near : l < stop → away low-x high-x low-y high-y (getD first l origin) (getD second (l + shift) origin) ≡ false
 
 -- neither edge lies to one side of the other's line
 unfoldable pub straddle : Corner → Corner → Corner → Corner → Bool

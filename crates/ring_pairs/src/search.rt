@@ -9,7 +9,7 @@ ghost use Rattle.rules.specs.Rings.{_to_, origin};
 ghost use Rattle.rules.specs.Crossing.{meets, folds};
 ghost use Rattle.ring_corners.specs.Corners.{pairs, Accepted};
 ghost use Rattle.ring_boxes.specs.Boxes.{Boxed};
-ghost use Rattle.ring_pairs.specs.Crossings.{away, straddle, BoxOf, InRun, FirstNear, FirstMet, pair-at, pair-after};
+ghost use Rattle.ring_pairs.specs.Crossings.{away, straddle, BoxOf, FirstNear, FirstMet, pair-at, pair-after};
 use crate::meeting;
 use ring_corners::corners;
 
@@ -94,9 +94,12 @@ fn meet_by_box(
     straddle_at(corners, k, k + 1, i, j)
 }
 
-// The first edge from number `start` to before number `stop` whose box is not away, or `stop`. Most pairs of edges end here, and nothing was multiplied.
+// The first number from `start` to before `stop` at which a box is not away, or `stop`: the box of that corner of one list and of the corner `shift` numbers on of another.
+// By the ring's corners and the next ones these are the boxes of edges, by the lowest and the highest corners those of runs. Most pairs of edges end here, and nothing was multiplied.
 fn first_near(
-    corners: &[i64],
+    first: &[i64],
+    second: &[i64],
+    shift: usize,
     low_x: i64,
     high_x: i64,
     low_y: i64,
@@ -104,12 +107,12 @@ fn first_near(
     start: usize,
     stop: usize,
 ) -> usize
-    requires { ⌜ (start ≤ stop) × (stop < length (pairs (now corners))) × (length (pairs (now corners)) ≤ 1024) ⌝ }
-    ensures { λ r. ⌜ FirstNear (pairs (now (corners .entry))) «low_x» «high_x» «low_y» «high_y» start stop r ⌝ }
+    requires { ⌜ (start ≤ stop) × (stop ≤ length (pairs (now first))) × (stop + shift ≤ length (pairs (now second))) × (stop + shift ≤ 1024) ⌝ }
+    ensures { λ r. ⌜ FirstNear (pairs (now (first .entry))) (pairs (now (second .entry))) shift «low_x» «high_x» «low_y» «high_y» start stop r ⌝ }
 {
     let mut l = start;
     while l < stop {
-        if away_from(corners, l, corners, l + 1, low_x, high_x, low_y, high_y) {
+        if away_from(first, l, second, l + shift, low_x, high_x, low_y, high_y) {
             l += 1;
         } else {
             return l;
@@ -118,29 +121,20 @@ fn first_near(
     l
 }
 
-// The same within run m. Where the run's box is away no edge of the run is near.
-fn near_in_run(
-    corners: &[i64],
-    lows: &[i64],
-    highs: &[i64],
-    m: usize,
-    low_x: i64,
-    high_x: i64,
-    low_y: i64,
-    high_y: i64,
-    start: usize,
-    stop: usize,
-) -> usize
-    requires { ⌜ Boxed (pairs (now corners)) (pairs (now lows)) (pairs (now highs)) × InRun (pairs (now corners)) (pairs (now lows)) m start stop ⌝ }
-    ensures { λ r. ⌜ FirstNear (pairs (now (corners .entry))) «low_x» «high_x» «low_y» «high_y» start stop r ⌝ }
+// As many runs as have a box and an edge before number `stop`, or one more that has a box.
+fn runs_to(boxes: usize, stop: usize) -> usize
+    requires { ⌜ stop < 1024 ⌝ }
+    ensures { λ r. ⌜ (r ≤ boxes) × (r ≤ 64) ⌝ }
 {
-    if away_from(lows, m, highs, m, low_x, high_x, low_y, high_y) {
-        return stop;
+    let all = stop / 16 + 1;
+    if all < boxes {
+        return all;
     }
-    first_near(corners, low_x, high_x, low_y, high_y, start, stop)
+    boxes
 }
 
-// The same over any number of runs. Past the last box, so also where there are no boxes at all, edge by edge.
+// The first edge from number `start` to before number `stop` whose box is not away, or `stop`. Runs whose boxes are away are passed whole. Past the last box, so also where there
+// are no boxes at all, edge by edge.
 fn next_near(
     corners: &[i64],
     lows: &[i64],
@@ -153,29 +147,24 @@ fn next_near(
     stop: usize,
 ) -> usize
     requires { ⌜ Boxed (pairs (now corners)) (pairs (now lows)) (pairs (now highs)) × (start ≤ stop) × (stop < length (pairs (now corners))) × (length (pairs (now corners)) ≤ 1024) ⌝ }
-    ensures { λ r. ⌜ FirstNear (pairs (now (corners .entry))) «low_x» «high_x» «low_y» «high_y» start stop r ⌝ }
+    ensures { λ r. ⌜ FirstNear (pairs (now (corners .entry))) (pairs (now (corners .entry))) 1 «low_x» «high_x» «low_y» «high_y» start stop r ⌝ }
 {
+    let runs = runs_to(lows.len() / 2, stop);
     let mut l = start;
     while l < stop {
         let m = l / 16;
-        if lows.len() / 2 <= m {
-            return first_near(corners, low_x, high_x, low_y, high_y, l, stop);
+        if runs <= m {
+            return first_near(corners, corners, 1, low_x, high_x, low_y, high_y, l, stop);
         }
-        let end = ring_boxes::run_end(m, stop);
-        l = near_in_run(
-            corners,
-            lows,
-            highs,
-            m,
-            low_x,
-            high_x,
-            low_y,
-            high_y,
-            l,
-            end,
-        );
-        if l < end {
-            return l;
+        let n = first_near(lows, highs, 0, low_x, high_x, low_y, high_y, m, runs);
+        if m < n {
+            l = ring_boxes::run_end(n - 1, stop);
+        } else {
+            let end = ring_boxes::run_end(m, stop);
+            l = first_near(corners, corners, 1, low_x, high_x, low_y, high_y, l, end);
+            if l < end {
+                return l;
+            }
         }
     }
     l

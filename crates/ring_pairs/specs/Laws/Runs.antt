@@ -3,19 +3,18 @@ use mathlib.Core.Path.{_≡_, refl, sym, subst}
 use mathlib.Core.Bool.{Bool, true, false, _&&_}
 use mathlib.Core.Logic.{inl, inr, ⊎-elim}
 use mathlib.Core.List.{List}
-use Prim.Native.Nat.{ℕ, _+_, _<_, _≤_}
+use Prim.Native.Nat.{ℕ, _+_, _-_, _/_, _<_, _≤_}
 use native.Mathlib.Omega.{arith}
-use native.Mathlib.Decide.{decLt}
 use lib.Dec.{T}
 use lib.IntN.{ℤ}
-use lib.ListN.{getD}
+use lib.ListN.{length, getD}
 use lib.Signed.{ltZ, _≤ℤ_, <ℤ-≤ℤ-trans}
 use Rattle.arith.specs.Laws.Order.{≤ℤ-<ℤ-trans}
 use Rattle.rules.specs.Rings.{Corner, origin}
 use Rattle.rules.specs.Laws.Checks.{ltZ-true, or-true}
 use Rattle.ring_corners.specs.Laws.Tests.{and-true}
-use Rattle.ring_boxes.specs.Boxes.{Inside, Boxed}
-use Rattle.ring_pairs.specs.Crossings.{outside, away, InRun, Skipped, FirstNear}
+use Rattle.ring_boxes.specs.Boxes.{Inside, RunEnd, Boxed}
+use Rattle.ring_pairs.specs.Crossings.{outside, away, Skipped}
 
 both : (a b : Bool) → (a && b) ≡ true → (a ≡ true) × (b ≡ true)
 both true b e = (refl, e)
@@ -37,30 +36,20 @@ away-inside lx hx ly hy c d p q e a b = ⊎-elim
     (λ f. or-true (outside lx hx (p .x) (q .x)) _ .1 (inr (outside-inside ly hy (c .y) (d .y) (p .y) (q .y) f (a .above-y) (a .below-y) (b .above-y) (b .below-y))))
     (or-true (outside lx hx (c .x) (d .x)) (outside ly hy (c .y) (d .y)) .0 e)
 
-pub skip-run : {r lows highs : List Corner} {lx hx ly hy : ℤ} {m start stop : ℕ} → Boxed r lows highs → InRun r lows m start stop
-    → away lx hx ly hy (getD lows m origin) (getD highs m origin) ≡ true → Skipped r lx hx ly hy start stop stop
-skip-run {r} {lows} {highs} {lx} {hx} {ly} {hy} {m} {start} {stop} b i e = record {
-  low = i .in-order;
-  high = omega arith;
-  skipped = λ j a c. away-inside lx hx ly hy (getD lows m origin) (getD highs m origin) (getD r j origin) (getD r (j + 1) origin) e (inside j a c) (inside-next j a c);
+-- the runs from m to before n are away, so their edges are, from edge l of run m on
+pub skip-runs : {r lows highs : List Corner} {lx hx ly hy : ℤ} {l end n stop t : ℕ} → Boxed r lows highs → Skipped lows highs 0 lx hx ly hy (l / 16) end n → end ≤ length lows
+    → l / 16 < n → RunEnd (n - 1) stop t → l < stop → stop < length r → Skipped r r 1 lx hx ly hy l stop t
+skip-runs {r} {lows} {highs} {lx} {hx} {ly} {hy} {l} {end} {n} {stop} {t} b s h g e f i = record {
+  low = e .whole l (omega arith) (omega arith);
+  high = e .in-reach;
+  skipped = λ j a c. away-inside lx hx ly hy (getD lows (j / 16) origin) (getD highs (j / 16) origin) (getD r j origin) (getD r (j + 1) origin) (run j a c) (inside j j a c (omega arith) (omega arith)) (inside j (j + 1) a c (omega arith) (omega arith));
 }
   where
-    inside : (j : ℕ) → start ≤ j → j < stop → Inside (getD lows m origin) (getD highs m origin) (getD r j origin)
-    inside j a c = b .boxes m j (i .has-box) (omega (arith, i)) (omega (arith, i)) (omega (arith, i)) (omega (arith, i))
+    none-on : (m : ℕ) → m + 0 ≡ m
+    none-on m = omega arith
 
-    inside-next : (j : ℕ) → start ≤ j → j < stop → Inside (getD lows m origin) (getD highs m origin) (getD r (j + 1) origin)
-    inside-next j a c = b .boxes m (j + 1) (i .has-box) (omega (arith, i)) (omega (arith, i)) (omega (arith, i)) (omega (arith, i))
+    run : (j : ℕ) → l ≤ j → j < t → away lx hx ly hy (getD lows (j / 16) origin) (getD highs (j / 16) origin) ≡ true
+    run j a c = subst (λ (i : ℕ). away lx hx ly hy (getD lows (j / 16) origin) (getD highs i origin) ≡ true) (none-on (j / 16)) (s .skipped (j / 16) (omega arith) (omega (arith, e .in-run)))
 
--- what was passed as far as l, and from there as far as n
-pub skip-join : {r : List Corner} {lx hx ly hy : ℤ} {start stop end l n : ℕ} → Skipped r lx hx ly hy start stop l → Skipped r lx hx ly hy l end n → end ≤ stop
-    → Skipped r lx hx ly hy start stop n
-skip-join {l} s t h = record {
-  low = omega (arith, s .low, t .low);
-  high = omega (arith, t .high);
-  skipped = λ j a b. elim (decLt j l) [ yes g ↦ s .skipped j a g | no g ↦ t .skipped j (omega arith) b ];
-}
-
--- the same, where n is the first that is near
-pub near-join : {r : List Corner} {lx hx ly hy : ℤ} {start stop end l n : ℕ} → Skipped r lx hx ly hy start stop l → FirstNear r lx hx ly hy l end n → end ≤ stop
-    → (n < stop → n < end) → FirstNear r lx hx ly hy start stop n
-near-join s t h g = record { passed = skip-join s (t .passed) h; near = λ p. t .near (g p) }
+    inside : (j p : ℕ) → l ≤ j → j < t → j ≤ p → p ≤ j + 1 → Inside (getD lows (j / 16) origin) (getD highs (j / 16) origin) (getD r p origin)
+    inside j p a c u v = b .boxes (j / 16) p (omega (arith, e .in-run, s .high)) (omega (arith, e .in-reach)) (omega arith) (omega arith) (omega (arith, e .in-reach))

@@ -228,24 +228,36 @@ module _ (r : List Corner) (k last : ℕ) (count : last + 1 ≡ length r) where
           pub miss-last : meets (leg r k) (close r last) ≡ false → Pair (last + 1)
           miss-last e = done (scanned-miss to-last (omega arith) (at-later ∙ e))
 
--- ---- edges whose boxes are away from that of edge k are passed
-pub skip-start : (r : List Corner) (lx hx ly hy : ℤ) (start stop : ℕ) → start ≤ stop → Skipped r lx hx ly hy start stop start
-skip-start r lx hx ly hy start stop h = record { low = omega arith; high = h; skipped = λ j a b. absurd (omega arith) }
+-- ---- boxes that are away from that of edge k are passed
+pub skip-start : (first second : List Corner) (shift : ℕ) (lx hx ly hy : ℤ) (start stop : ℕ) → start ≤ stop → Skipped first second shift lx hx ly hy start stop start
+skip-start first second shift lx hx ly hy start stop h = record { low = omega arith; high = h; skipped = λ j a b. absurd (omega arith) }
 
-pub skip-step : {r : List Corner} {lx hx ly hy : ℤ} {start stop l : ℕ} → Skipped r lx hx ly hy start stop l → l < stop
-    → away lx hx ly hy (getD r l origin) (getD r (l + 1) origin) ≡ true → Skipped r lx hx ly hy start stop (l + 1)
-skip-step {r} {lx} {hx} {ly} {hy} {start} {stop} {l} s h e = record {
-  low = omega (arith, s .low);
-  high = omega arith;
-  skipped = λ j a b. elim (decLt j l) [ yes g ↦ s .skipped j a g | no g ↦ here j (omega arith) ];
-}
-  where
-    here : (j : ℕ) → j ≡ l → away lx hx ly hy (getD r j origin) (getD r (j + 1) origin) ≡ true
-    here j f = rw f e
+module _ {first second : List Corner} {shift : ℕ} {lx hx ly hy : ℤ} {start stop l : ℕ} (s : Skipped first second shift lx hx ly hy start stop l) where
+  pub skip-step : l < stop → away lx hx ly hy (getD first l origin) (getD second (l + shift) origin) ≡ true → Skipped first second shift lx hx ly hy start stop (l + 1)
+  skip-step h e = record {
+    low = omega (arith, s .low);
+    high = omega arith;
+    skipped = λ j a b. elim (decLt j l) [ yes g ↦ s .skipped j a g | no g ↦ here j (omega arith) ];
+  }
+    where
+      here : (j : ℕ) → j ≡ l → away lx hx ly hy (getD first j origin) (getD second (j + shift) origin) ≡ true
+      here j f = rw f e
 
--- none is near
-pub skip-end : {r : List Corner} {lx hx ly hy : ℤ} {start stop l : ℕ} → Skipped r lx hx ly hy start stop l → stop ≤ l → FirstNear r lx hx ly hy start stop l
-skip-end s h = record { passed = s; near = λ g. absurd (omega arith) }
+  -- none is near
+  pub skip-end : stop ≤ l → FirstNear first second shift lx hx ly hy start stop l
+  skip-end h = record { passed = s; near = λ g. absurd (omega arith) }
+
+  -- what was passed as far as l, and from there as far as n
+  pub skip-join : {end n : ℕ} → Skipped first second shift lx hx ly hy l end n → end ≤ stop → Skipped first second shift lx hx ly hy start stop n
+  skip-join t h = record {
+    low = omega (arith, s .low, t .low);
+    high = omega (arith, t .high);
+    skipped = λ j a b. elim (decLt j l) [ yes g ↦ s .skipped j a g | no g ↦ t .skipped j (omega arith) b ];
+  }
+
+  -- the same, where n is the first that is near
+  pub near-join : {end n : ℕ} → FirstNear first second shift lx hx ly hy l end n → end ≤ stop → (n < stop → n < end) → FirstNear first second shift lx hx ly hy start stop n
+  near-join t h g = record { passed = skip-join (t .passed) h; near = λ p. t .near (g p) }
 
 module _ {r : List Corner} {k : ℕ} {lx hx ly hy : ℤ} (b : BoxOf r k lx hx ly hy) where
   -- an edge whose box is away does not meet
@@ -257,7 +269,7 @@ module _ {r : List Corner} {k : ℕ} {lx hx ly hy : ℤ} (b : BoxOf r k lx hx ly
   by-sides c d e = sym (near-sides (getD r k origin) (getD r (k + 1) origin) c d (rw (b .low-x-is, b .high-x-is, b .low-y-is, b .high-y-is) at e))
 
   -- none before l meets, and those from l to before m are away
-  pub skip-on : {start stop l m : ℕ} → Met-none r k start stop l → Skipped r lx hx ly hy l stop m → Met-none r k start stop m
+  pub skip-on : {start stop l m : ℕ} → Met-none r k start stop l → Skipped r r 1 lx hx ly hy l stop m → Met-none r k start stop m
   skip-on {start} {stop} {l} {m} s t = record {
     low = omega (arith, s .low, t .low);
     high = t .high;
