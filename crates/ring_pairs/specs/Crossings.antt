@@ -3,12 +3,12 @@ use mathlib.Core.Path.{_≡_}
 use mathlib.Core.Bool.{Bool, true, false, not, _&&_, _||_}
 use mathlib.Core.Option.{Option, none, some}
 use mathlib.Core.List.{List}
-use Prim.Native.Nat.{ℕ, suc, _+_, _*_, _<_, _≤_}
+use Prim.Native.Nat.{ℕ, suc, _+_, _<_, _≤_}
 use lib.Dec.{ltb}
-use lib.IntN.{ℤ, pos, _+ℤ_, _-ℤ_, _*ℤ_}
+use lib.IntN.{ℤ, _+ℤ_, _-ℤ_, _*ℤ_}
 use lib.ListN.{length, drop, getD}
 use lib.Signed.{ltZ}
-use Rattle.rules.specs.Rings.{Corner, Edge, _to_, origin, D, isZero, edge, edges, EdgePair}
+use Rattle.rules.specs.Rings.{Corner, _to_, origin, D, isZero, edge, edges, EdgePair}
 use Rattle.rules.specs.RingAnswers.{smaller, larger}
 use Rattle.rules.specs.Crossing.{aside, meets, first-with}
 use Rattle.ring_corners.specs.Corners.{Near}

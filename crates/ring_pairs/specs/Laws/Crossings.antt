@@ -1,16 +1,15 @@
 -- The crossing test of two edges, by the tests that the code makes. Assumes nothing.
 use mathlib.Core.Path.{_≡_, refl, sym, _∙_, ap, ap₂, subst}
 use mathlib.Core.Bool.{Bool, true, false, not, _&&_, _||_}
-use mathlib.Core.Logic.{_⊎_, inl, inr, ⊎-elim}
-use mathlib.Core.List.{List, [], _∷_}
-use Prim.Native.Nat.{ℕ, zero, suc}
+use mathlib.Core.Logic.{inl, inr, ⊎-elim}
+use mathlib.Core.List.{[], _∷_}
 use native.Mathlib.Omega.{arith}
 use lib.Dec.{T}
-use lib.IntN.{ℤ, pos, _+ℤ_, _-ℤ_, _*ℤ_}
+use lib.IntN.{ℤ, pos, _-ℤ_, _*ℤ_}
 use lib.Signed.{leZ, ltZ, _≤ℤ_, _<ℤ_, <ℤ-≤ℤ-trans}
-use Rattle.arith.specs.Laws.Diff.{_⊖_, Z·ℕ, lin}
+use Rattle.arith.specs.Laws.Diff.{Z·ℕ, lin}
 use Rattle.arith.specs.Laws.Order.{≤ℤ-<ℤ-trans, <ℤ-trans, <ℤ→≤ℤ}
-use Rattle.rules.specs.Rings.{Corner, Edge, _to_, D, isZero}
+use Rattle.rules.specs.Rings.{Corner, _to_, D, isZero}
 use Rattle.rules.specs.RingAnswers.{smaller, larger}
 use Rattle.rules.specs.Crossing.{before, overlap, aside, meets, folds}
 use Rattle.rules.specs.Laws.Checks.{ltZ-true, ltZ-false, or-true, or-false}
@@ -21,7 +20,7 @@ use Rattle.ring_corners.specs.Sides.{sign-of}
 use Rattle.ring_corners.specs.Laws.Sides.{leZ-true, leZ-false}
 use Rattle.ring_corners.specs.Laws.Tests.{and-true, and-left, and-right, zero-is, zero-sign}
 use Rattle.ring_corners.specs.declared.sides.Sign.{Sign}
-use Rattle.ring_corners.specs.declared.sides.Sign.the-variants.{Positive, Zero, Negative}
+use Rattle.ring_corners.specs.declared.sides.Sign.the-variants.{Zero}
 
 -- ---- boxes, by the smaller and the larger end
 implied : (x y : Bool) → (x ≡ true → y ≡ true) → x ≡ (x && y)

@@ -1,15 +1,15 @@
 -- On one line by D, or else no fold. Assumes nothing.
-use mathlib.Core.Path.{_≡_, refl, sym, _∙_, ap}
+use mathlib.Core.Path.{_≡_, refl, sym, _∙_}
 use mathlib.Core.Bool.{_||_}
-use lib.IntN.{ℤ, pos}
+use lib.IntN.{pos}
 use lib.Signed.{ltZ}
 use Rattle.rules.specs.Rings.{Corner, D}
-use Rattle.ring_corners.specs.Corners.{corner, Near}
+use Rattle.ring_corners.specs.Corners.{corner}
 use Rattle.ring_pairs.specs.Crossings.{ahead, no-length, RowNear}
 use Rattle.ring_corners.specs.Sides.{sign-of}
 use Rattle.ring_corners.specs.Laws.Signed.{raw, raw-is}
 use Rattle.ring_pairs.specs.Laws.Crossings.{folds-straight, folds-bent}
-use Rattle.ring_corners.specs.declared.sides.Sign.the-variants.{Positive, Zero, Negative}
+use Rattle.ring_corners.specs.declared.sides.Sign.the-variants.{Positive, Negative}
 use borrow.Author.Needs.{needs}
 use Rattle.ring_pairs.proofs.meeting.fold.Statement.{statement}
 use Rattle.ring_pairs.proofs.meeting.fold.Tie as tie

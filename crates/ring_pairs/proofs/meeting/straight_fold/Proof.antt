@@ -4,7 +4,7 @@ use lib.IntN.{pos}
 use lib.Signed.{ltZ}
 use Rattle.rules.specs.Rings.{Corner}
 use Rattle.ring_corners.specs.Corners.{corner}
-use Rattle.ring_pairs.specs.Crossings.{ahead, no-length, RowNear}
+use Rattle.ring_pairs.specs.Crossings.{ahead, no-length}
 use Rattle.ring_corners.specs.Laws.Signed.{raw, raw-is}
 use Rattle.ring_pairs.specs.Laws.Crossings.{straight-none, straight-back}
 use borrow.Author.Needs.{needs}

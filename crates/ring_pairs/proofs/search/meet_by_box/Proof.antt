@@ -9,7 +9,6 @@ use Rattle.rules.specs.Rings.{origin}
 use Rattle.ring_corners.specs.Corners.{pairs}
 use Rattle.ring_pairs.specs.Crossings.{BoxOf}
 use Rattle.ring_pairs.specs.Laws.Search.{unmet, by-sides}
-use borrow.Author.Needs.{needs}
 use Rattle.ring_pairs.proofs.search.meet_by_box.Statement.{statement}
 use Rattle.ring_pairs.proofs.search.meet_by_box.Tie as tie
 
