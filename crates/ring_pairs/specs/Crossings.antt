@@ -3,7 +3,7 @@ use mathlib.Core.Path.{_≡_}
 use mathlib.Core.Bool.{Bool, true, false, not, _&&_, _||_}
 use mathlib.Core.Option.{Option, none, some}
 use mathlib.Core.List.{List}
-use Prim.Native.Nat.{ℕ, suc, _+_, _<_, _≤_}
+use Prim.Native.Nat.{ℕ, suc, _+_, _*_, _<_, _≤_}
 use lib.Dec.{ltb}
 use lib.IntN.{ℤ, _+ℤ_, _-ℤ_, _*ℤ_}
 use lib.ListN.{length, drop, getD}
@@ -27,6 +27,12 @@ pub record BoxOf (r : List Corner) (k : ℕ) (low-x high-x low-y high-y : ℤ) :
   pub high-x-is : high-x ≡ larger (getD r k origin .x) (getD r (k + 1) origin .x)
   pub low-y-is : low-y ≡ smaller (getD r k origin .y) (getD r (k + 1) origin .y)
   pub high-y-is : high-y ≡ larger (getD r k origin .y) (getD r (k + 1) origin .y)
+
+-- the runs before number n have boxes, and every run that has a box and an edge before number `stop` is one of them
+pub record RunsTo (boxes stop n : ℕ) : Type 0 where
+  pub have-boxes : n ≤ boxes
+  pub at-most : n ≤ 64
+  pub all : (m : ℕ) → m < boxes → 16 * m < stop → m < n
 
 -- at the numbers from `start` to before l, which is `stop` at most, the box of a corner of one list and of the corner `shift` numbers on of another is away
 pub record Skipped (first second : List Corner) (shift : ℕ) (low-x high-x low-y high-y : ℤ) (start stop l : ℕ) : Type 0 where

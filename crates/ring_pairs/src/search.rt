@@ -9,7 +9,7 @@ ghost use Rattle.rules.specs.Rings.{_to_, origin};
 ghost use Rattle.rules.specs.Crossing.{meets, folds};
 ghost use Rattle.ring_corners.specs.Corners.{pairs, Accepted};
 ghost use Rattle.ring_boxes.specs.Boxes.{Boxed};
-ghost use Rattle.ring_pairs.specs.Crossings.{away, straddle, BoxOf, FirstNear, FirstMet, pair-at, pair-after};
+ghost use Rattle.ring_pairs.specs.Crossings.{away, straddle, BoxOf, RunsTo, FirstNear, FirstMet, pair-at, pair-after};
 use crate::meeting;
 use ring_corners::corners;
 
@@ -121,10 +121,10 @@ fn first_near(
     l
 }
 
-// As many runs as have a box and an edge before number `stop`, or one more that has a box.
+// How far the runs go that have a box and an edge before number `stop`, or one run farther that has a box.
 fn runs_to(boxes: usize, stop: usize) -> usize
     requires { ⌜ stop < 1024 ⌝ }
-    ensures { λ r. ⌜ (r ≤ boxes) × (r ≤ 64) ⌝ }
+    ensures { λ r. ⌜ RunsTo boxes stop r ⌝ }
 {
     let all = stop / 16 + 1;
     if all < boxes {

@@ -30,7 +30,7 @@ module _ (st : tie.Start Inv-loop μ-loop) where
 
 -- as many runs have boxes
 boxed : (c : tie.After-runs-to Inv-loop μ-loop) → c .runs-to .result ≤ length (pairs (c .before .args .lows .now))
-boxed c = let n = count-half (c .before .args .lows .now) in let h = c .runs-to .ensures .0 in omega arith
+boxed c = let n = count-half (c .before .args .lows .now) in let h = c .runs-to .ensures .have-boxes in omega arith
 
 runs-to-requires : tie.Need-runs-to-requires Inv-loop μ-loop
 runs-to-requires c κs = let s = c .pre .2 in let m = c .pre .3 in omega arith
@@ -56,7 +56,7 @@ first-near-requires-2 c κs =
     let r = c .before .before .before in
     let b = boxed r in
     let a = r .before .pre .0 .as-many in
-    let m = r .runs-to .ensures .1 in
+    let m = r .runs-to .ensures .at-most in
     let h = c .if1 .left in
     (omega arith, b, omega arith, omega arith)
 
@@ -64,7 +64,7 @@ sub-run-end : tie.Need-sub-run-end Inv-loop μ-loop
 sub-run-end c = let h = c .if2 .taken in omega arith
 
 run-end-requires : tie.Need-run-end-requires Inv-loop μ-loop
-run-end-requires c κs = let n = c .before .first-near2 .ensures .passed .high in let m = c .before .before .before .before .before .runs-to .ensures .1 in let h = c .if2 .taken in omega arith
+run-end-requires c κs = let n = c .before .first-near2 .ensures .passed .high in let m = c .before .before .before .before .before .runs-to .ensures .at-most in let h = c .if2 .taken in omega arith
 
 loop-less : tie.Need-loop-less Inv-loop μ-loop
 loop-less c =
@@ -82,7 +82,7 @@ loop-again c =
     skip-join (at .loop .inv) (skip-runs (st .pre .0) (f .first-near2 .ensures .passed) (boxed (at .before)) (c .before .if2 .taken) (c .run-end .ensures) (f .before .before .loop-test .taken) (st .pre .2)) (le-refl (st .args .stop))
 
 run-end-requires-2 : tie.Need-run-end-requires-2 Inv-loop μ-loop
-run-end-requires-2 c κs = let f = c .before in let m = f .before .before .before .before .runs-to .ensures .1 in let h = f .before .if1 .left in omega arith
+run-end-requires-2 c κs = let f = c .before in let m = f .before .before .before .before .runs-to .ensures .at-most in let h = f .before .if1 .left in omega arith
 
 first-near-requires-3 : tie.Need-first-near-requires-3 Inv-loop μ-loop
 first-near-requires-3 c κs =
