@@ -177,7 +177,7 @@ module _ (numbers : List ℤ) {c : crossings.CrossingAnswer} (told : crossing-pa
   unfolding judged-flat
   clean-judged p e h = h ∙ ap (λ (x : Answer ℕ). x >> area-answer numbers) (sym (ap crossing-paper e) ∙ told)
 
-  pub crossed-judged : {i j looked : ℕ} → c ≡ crossing-case.Crossed i j looked → crossed-at (record { low = i; high = j; looked-at = looked }) ≡ judged-flat numbers
+  pub crossed-judged : {i j looked : ℕ} → c ≡ crossing-case.Crossed i j looked → crossed-at (record { ring = 0; low = i; high = j; looked-at = looked }) ≡ judged-flat numbers
   unfolding judged-flat
   crossed-judged e = ap (λ (x : Answer ℕ). x >> area-answer numbers) (sym (ap crossing-paper e) ∙ told)
 

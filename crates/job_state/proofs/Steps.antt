@@ -321,7 +321,7 @@ module _ (j : Job) (long : length (j .corners) ≡ 1024) (p : judgement.Judged) 
   unfolding closed judged closing judging line
   crosses i l looked e =
       let r = ring-of (j .count) (j .corners) in
-      let s = cross-by (j .code) n r ring-long (record { low = i; high = l; looked-at = looked }) (count-bad r) (span-bad r) (not-crossed r) (ap judged-paper (sym e) ∙ at-ring) in
+      let s = cross-by (j .code) n r ring-long (record { ring = 0; low = i; high = l; looked-at = looked }) (count-bad r) (span-bad r) (not-crossed r) (ap judged-paper (sym e) ∙ at-ring) in
       record { says = s; leaves = ap (λ (s : rules.Answer Step). left s record-case.Close j) s }
 
 -- ---- kind 5

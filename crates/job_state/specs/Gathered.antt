@@ -54,7 +54,7 @@ judged-flat numbers = crossing-answer numbers >> area-answer numbers
 abbrev pub judged-paper : judgement.Judged → Answer ℤ
 judged-paper (judged-case.Area z) = answered z
 judged-paper (judged-case.Refused n) = refused n
-judged-paper (judged-case.Crossed i j looked) = crossed-at (record { low = i; high = j; looked-at = looked })
+judged-paper (judged-case.Crossed i j looked) = crossed-at (record { ring = 0; low = i; high = j; looked-at = looked })
 
 -- ---- a point and a ring that was judged before: 6 and 8 again, and the nozzle rule
 unfoldable pub located : List Corner → Corner → Answer Nozzle

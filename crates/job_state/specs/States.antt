@@ -59,7 +59,7 @@ paper (Field c n a) s = print s (line (Field c n a))
 paper (Nozzle X Y p) s = print s (line (Nozzle X Y p))
 paper (Point X Y k c) s = print s (line (Point X Y k c))
 paper (Refused n) s = refused n
-paper (Crossed i j looked) s = crossed-at (record { low = i; high = j; looked-at = looked })
+paper (Crossed i j looked) s = crossed-at (record { ring = 0; low = i; high = j; looked-at = looked })
 
 abbrev pub query-said : place.NozzleAnswer → ℤ → ℤ → answers.Answer
 query-said located-case.Open X Y = Nozzle X Y Open

@@ -27,7 +27,7 @@ TurningCall numbers p w = whole-paper w ≡ turning-answer numbers p
 -- the crossing test, with the pairs looked at
 abbrev pub crossing-paper : CrossingAnswer → Answer ℕ
 crossing-paper (CrossingAnswer.Clean looked) = answered looked
-crossing-paper (CrossingAnswer.Crossed i j looked) = crossed-at (record { low = i; high = j; looked-at = looked })
+crossing-paper (CrossingAnswer.Crossed i j looked) = crossed-at (record { ring = 0; low = i; high = j; looked-at = looked })
 crossing-paper (CrossingAnswer.Refused n) = refused n
 
 -- where a nozzle stands
@@ -35,7 +35,7 @@ abbrev pub nozzle-paper : NozzleAnswer → Answer Nozzle
 nozzle-paper NozzleAnswer.Open = answered open-nozzle
 nozzle-paper NozzleAnswer.Border = answered border-nozzle
 nozzle-paper NozzleAnswer.Shut = answered shut-nozzle
-nozzle-paper (NozzleAnswer.Crossed i j looked) = crossed-at (record { low = i; high = j; looked-at = looked })
+nozzle-paper (NozzleAnswer.Crossed i j looked) = crossed-at (record { ring = 0; low = i; high = j; looked-at = looked })
 nozzle-paper (NozzleAnswer.Refused n) = refused n
 
 -- the nozzle's answer for a ring whose crossing was judged before: the checks 6, 7 and 8, and then border, open or shut

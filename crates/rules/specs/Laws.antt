@@ -29,6 +29,8 @@ pub mod SameTurning
 pub mod Edges
 pub mod Meeting
 pub mod Folding
+pub mod OnEdge
+pub mod Placing
 pub mod Pairs
 pub mod Looked
 pub mod Tried

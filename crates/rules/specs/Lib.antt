@@ -5,6 +5,7 @@
 --                                        Points (what forward, inverse and plane to plane answer), Terminals (02 (v): two answers that are both right),
 --                                        EastWest (02 (xi): two points on either side of the central meridian)
 --   01, Rings                            Rings (the rules), Crossing (the crossing test, by computing), RingAnswers (checks and answers of a ring), Conversion
+--   02 (i), Ponds and barns              Fields (a field's rings, where an inner ring may lie, the nozzle rule), Placing (the test of where it lies, by computing), FieldAnswers
 --   01, The job file                     JobFile
 --   01, Refusal numbers and their order  Refusals (the numbers, and checks in order); each call's order stands in its own definition
 --   01, Numbers to try                   Numbers (P1 to P12), Tried (J, the bow tie, the numbers to run, nozzles, each series, two points of each code, each limit)
@@ -23,6 +24,9 @@ pub mod EastWest
 pub mod Rings
 pub mod Crossing
 pub mod RingAnswers
+pub mod Fields
+pub mod Placing
+pub mod FieldAnswers
 pub mod Conversion
 pub mod JobFile
 pub mod Computing

@@ -73,7 +73,7 @@ ring-checks numbers = do
 -- Laws.Looked); "for a crossed one it is the place of the reported pair, from 1, in the order of document 01."
 abbrev pub looked-through : ℕ → Option EdgePair → Answer ℕ
 looked-through n none = answered (length (edge-pairs n))
-looked-through n (some t) = crossed-at (record { low = t .low; high = t .high; looked-at = place t (edge-pairs n) })
+looked-through n (some t) = crossed-at (record { ring = 0; low = t .low; high = t .high; looked-at = place t (edge-pairs n) })
 
 unfoldable pub not-crossed : List Corner → Answer ℕ
 not-crossed r = looked-through (length r) (crossed r)

@@ -77,7 +77,7 @@ module _ (r : List Corner) (n edges : ℕ) (e : found-pair n ≡ crossed r) (sam
   unfolding found-pair
   pair-found h = sym e ∙ ap (λ (t : Bool). elim t [ true ↦ some (pair-of (n / 1024) (n % 1024)) | false ↦ none ]) (lt-ltb n 1_048_576 h)
 
-  pub hit-answer : n < 1_048_576 → crossed-at (record { low = n / 1024; high = n % 1024; looked-at = place (pair-of (n / 1024) (n % 1024)) (edge-pairs edges) }) ≡ not-crossed r
+  pub hit-answer : n < 1_048_576 → crossed-at (record { ring = 0; low = n / 1024; high = n % 1024; looked-at = place (pair-of (n / 1024) (n % 1024)) (edge-pairs edges) }) ≡ not-crossed r
   unfolding not-crossed
   hit-answer h = ap (λ (m : ℕ). looked-through m (some (pair-of (n / 1024) (n % 1024)))) same ∙ sym (ap (looked-through (length r)) (pair-found h))
 

@@ -17,7 +17,7 @@ use Rattle.rules.specs.Crossing.{folds}
 use Rattle.rules.specs.Laws.Meeting.{T-and, and-T, T-or, or-T, gone}
 
 -- ---- tests
-zero-T : (z : ℤ) → z ≡ pos 0 → T (isZero z)
+pub zero-T : (z : ℤ) → z ≡ pos 0 → T (isZero z)
 zero-T z e = subst (λ (t : ℤ). T (isZero t)) (sym e) tt
 
 pub T-zero : (z : ℤ) → T (isZero z) → z ≡ pos 0

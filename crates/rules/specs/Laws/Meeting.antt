@@ -38,7 +38,7 @@ or-T false y (inl t) = absurd t
 or-T false y (inr t) = t
 
 -- neither pair of numbers lies before the other
-abbrev Over : ℤ → ℤ → ℤ → ℤ → Type 0
+abbrev pub Over : ℤ → ℤ → ℤ → ℤ → Type 0
 Over a b c d = (a <ℤ c → a <ℤ d → b <ℤ c → b <ℤ d → ⊥) × (c <ℤ a → c <ℤ b → d <ℤ a → d <ℤ b → ⊥)
 
 before-T : (a b c d : ℤ) → a <ℤ c → a <ℤ d → b <ℤ c → b <ℤ d → T (before a b c d)
@@ -120,11 +120,11 @@ lt-trans : (x y z : ℤ) → x <ℤ y → y <ℤ z → x <ℤ z
 lt-trans x y z = lin (x ∷ y ∷ z ∷ []) λ u v e1 e2 e3. simp (Z·ℕ, e1, e2, e3) (omega arith)
 
 -- both corners of each edge lie on the other edge's line
-record Flat (a b p q : Corner) : Type 0 where
-  fp : D a b p ≡ pos 0
-  fq : D a b q ≡ pos 0
-  fa : D p q a ≡ pos 0
-  fb : D p q b ≡ pos 0
+pub record Flat (a b p q : Corner) : Type 0 where
+  pub fp : D a b p ≡ pos 0
+  pub fq : D a b q ≡ pos 0
+  pub fa : D p q a ≡ pos 0
+  pub fb : D p q b ≡ pos 0
 
 at-p : (a b p q : Corner) → D a b p ≡ pos 0 → a .x ≤ℤ p .x → p .x ≤ℤ b .x → a .x <ℤ b .x → Share a b p q
 unfolding D
@@ -163,7 +163,7 @@ flat-ab {a} {b} {p} {q} f = record { fp = side-back a b p ∙ ap negℤ (f .fp);
 flat-swap : {a b p q : Corner} → Flat a b p q → Flat p q a b
 flat-swap f = record { fp = f .fa; fq = f .fb; fa = f .fp; fb = f .fq }
 
-share-swap : {a b p q : Corner} → Share p q a b → Share a b p q
+pub share-swap : {a b p q : Corner} → Share p q a b → Share a b p q
 share-swap s = record
     { m = s .m; i = s .j; j = s .i; some = s .some; i-in = s .j-in; j-in = s .i-in; same-x = sym (s .same-x); same-y = sym (s .same-y) }
 
@@ -216,7 +216,7 @@ flat-by-x a b p q f o = go (tricho (a .x) (b .x)) (tricho (p .x) (q .x))
 one-corner : (a b p q : ℤ) → a ≡ p → pos (1 - 0) *ℤ a +ℤ pos 0 *ℤ b ≡ pos (1 - 0) *ℤ p +ℤ pos 0 *ℤ q
 one-corner a b p q = lin (a ∷ b ∷ p ∷ q ∷ []) λ u v e1 e2 e3 e4. simp (Z·ℕ, e1, e2, e3, e4) (omega arith)
 
-flat : (a b p q : Corner) → Flat a b p q → Over (a .x) (b .x) (p .x) (q .x) → Over (a .y) (b .y) (p .y) (q .y) → Share a b p q
+pub flat : (a b p q : Corner) → Flat a b p q → Over (a .x) (b .x) (p .x) (q .x) → Over (a .y) (b .y) (p .y) (q .y) → Share a b p q
 unfolding flip
 flat a b p q f ox oy =
     ⊎-elim (λ s. s)

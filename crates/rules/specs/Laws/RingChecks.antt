@@ -31,7 +31,7 @@ nine r pair = go (crossed r) refl
     go : (t : Option EdgePair) → crossed r ≡ t → looked-through (length r) t ≡ crossed-at pair → Nine r pair
     go none x e = absurd (let z : _≡_ {A = ℕ} 0 1 = cc e in omega arith)
     go (some t) x e =
-        let p : _≡_ {A = CrossedPair} (record { low = t .low; high = t .high; looked-at = place t (edge-pairs (length r)) }) pair = cc e in
+        let p : _≡_ {A = CrossedPair} (record { ring = 0; low = t .low; high = t .high; looked-at = place t (edge-pairs (length r)) }) pair = cc e in
         let f = crossed-some r t x in
         subst (Nine r) p
         (record {

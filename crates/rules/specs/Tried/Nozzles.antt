@@ -18,7 +18,7 @@ pub record Nozzles : Type 0 where
   -- "Taking only +1 as inside: an anticlockwise field stays shut."
   pub anticlockwise : N.nozzle-answer (flat (reverse square)) (at 500 500) ≡ answered N.open-nozzle
   -- "Refused for a crossed ring. Turning number and area answer for crossed rings too."
-  pub crossed : N.nozzle-answer (flat bow) (at 900 500) ≡ Answer.crossed-at (record { low = 0; high = 2; looked-at = 2 })
+  pub crossed : N.nozzle-answer (flat bow) (at 900 500) ≡ Answer.crossed-at (record { ring = 0; low = 0; high = 2; looked-at = 2 })
   pub crossed-turning : N.turning-answer (flat bow) (at 900 500) ≡ answered (negℤ (pos 1))
   pub crossed-area : N.area-answer (flat bow) ≡ answered (pos 0)
   -- "and D > 0", "and D < 0": a point on an edge gets nothing from that edge
@@ -27,6 +27,6 @@ pub record Nozzles : Type 0 where
   -- "Forgetting that the last edge neighbours the first."
   pub last-and-first : N.crossing-answer (flat square) ≡ answered 6
   -- "an edge of no length also makes a pair with the edge after it": edge 0 with edge 1
-  pub no-length : N.crossing-answer (flat (at 0 0 ∷ at 0 0 ∷ at 5 0 ∷ at 0 5 ∷ [])) ≡ Answer.crossed-at (record { low = 0; high = 1; looked-at = 1 })
+  pub no-length : N.crossing-answer (flat (at 0 0 ∷ at 0 0 ∷ at 5 0 ∷ at 0 5 ∷ [])) ≡ Answer.crossed-at (record { ring = 0; low = 0; high = 1; looked-at = 1 })
   -- "a corner list of odd length"
   pub odd-list : N.area-answer (pos 0 ∷ flat square) ≡ refused 6

@@ -39,7 +39,7 @@ cast-t11 c = let n = small-count c in record { sfits = omega arith }
 
 -- of a crossed one
 abbrev nine : tie.After-known-told3 → CrossedPair
-nine c = record { low = c .before .low .given .0 .0; high = c .before .low .given .0 .1 .0; looked-at = c .before .low .given .0 .1 .1 .0 }
+nine c = record { ring = 0; low = c .before .low .given .0 .0; high = c .before .low .given .0 .1 .0; looked-at = c .before .low .given .0 .1 .1 .0 }
 
 crossed : (c : tie.After-known-told3) → crossing-answer (c .before .before .before .before .args .corners .now) ≡ crossed-at (nine c)
 crossed c = given (c .before .before .before) ∙ ap crossing-paper (c .before .low .given .1)

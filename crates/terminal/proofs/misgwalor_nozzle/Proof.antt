@@ -39,7 +39,7 @@ given c =
     sym (c .nozzle .ensures ∙ ap₂ (λ x y. nozzle-answer (s .args .corners .now) (corner x y)) (toZ-ofZ (s .fits .px)) (toZ-ofZ (s .fits .py)))
 
 abbrev nine : tie.After-known-told2 → CrossedPair
-nine c = record { low = c .before .first .given .0 .0; high = c .before .first .given .0 .1 .0; looked-at = c .before .first .given .0 .1 .1 .0 }
+nine c = record { ring = 0; low = c .before .first .given .0 .0; high = c .before .first .given .0 .1 .0; looked-at = c .before .first .given .0 .1 .1 .0 }
 
 crossed : (c : tie.After-known-told2)
     → nozzle-answer (c .before .before .before .before .args .corners .now) (corner (c .before .before .before .before .args .px) (c .before .before .before .before .args .py))

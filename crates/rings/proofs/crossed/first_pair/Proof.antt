@@ -35,7 +35,7 @@ place-of-requires c κs =
 returns : tie.Need-returns
 returns c =
     let t = c .before .before in
-    ap (λ (looked : ℕ). crossed-at (record { low = t .search-all .result / 1024; high = t .search-all .result % 1024; looked-at = looked })) (c .place-of .ensures)
+    ap (λ (looked : ℕ). crossed-at (record { ring = 0; low = t .search-all .result / 1024; high = t .search-all .result % 1024; looked-at = looked })) (c .place-of .ensures)
     ∙ hit-answer (pairs (t .before .args .corners .now)) (t .search-all .result) _ (t .search-all .ensures) (same t) (c .before .if1 .taken)
 
 pairs-of-requires : tie.Need-pairs-of-requires
