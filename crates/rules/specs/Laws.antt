@@ -31,6 +31,7 @@ pub mod Meeting
 pub mod Folding
 pub mod OnEdge
 pub mod Placing
+pub mod Fields
 pub mod Pairs
 pub mod Looked
 pub mod Tried

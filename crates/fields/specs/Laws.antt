@@ -1,0 +1,9 @@
+-- What is proved of the definitions; not needed to read the contracts.
+--   Cut        the numbers of each ring, by the counts of the rings before it
+--   Inner      the checks of an inner ring's numbers
+--   Calls      6 before all else, and the calls of the rings
+--   Walks      the walk over the rings gives the rules' answer
+pub mod Cut
+pub mod Inner
+pub mod Calls
+pub mod Walks

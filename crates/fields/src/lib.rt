@@ -1,0 +1,39 @@
+// The field calls: where a point stands to a field of an outer ring and up to sixteen inner ones. A field is lent as two slices: the corner count of each ring, the outer one
+// first, and the numbers of all rings one after the other, X and Y of each corner in turn. Each call answers as the rules do, refusals included, for every input; none
+// copies the rings.
+ghost use mathlib.Core.Path.{_≡_};
+ghost use Rattle.rules.specs.FieldAnswers.{field-position-answer};
+ghost use Rattle.ring_corners.specs.Corners.{corner};
+ghost use Rattle.fields.specs.Answers.{field-nozzle-paper};
+
+mod counts;
+mod standing;
+
+// Accepted; or a crossed ring, with its number, its first pair of edges and the pairs looked at; or the number of a refusal.
+pub enum FieldAnswer {
+    Accepted,
+    Crossed(u64, u64, u64, u64),
+    Refused(u8),
+}
+
+// Where a nozzle stands; or a refusal, a crossed ring's with its number, its first pair of edges and the pairs looked at.
+pub enum FieldNozzle {
+    Open,
+    Border,
+    Shut,
+    Crossed(u64, u64, u64, u64),
+    Refused(u8),
+}
+
+// Where a point stands to a field that was accepted before: the checks 6, 7 and 8 of each ring are made, and 16; never 9 and 15.
+pub fn position(counts: &[u32], corners: &[i64], px: i64, py: i64) -> FieldNozzle
+    ensures { λ r. ⌜ field-nozzle-paper r ≡ field-position-answer (now (counts .entry)) (now (corners .entry)) (corner px py) ⌝ }
+{
+    if counts::uneven(counts, corners.len()) {
+        return FieldNozzle::Refused(6);
+    }
+    if counts.len() == 0 {
+        return FieldNozzle::Refused(6);
+    }
+    standing::told(standing::over_rings(counts, corners, px, py))
+}
