@@ -2,8 +2,10 @@
 --   Cut        the numbers of each ring, by the counts of the rings before it
 --   Inner      the checks of an inner ring's numbers
 --   Calls      6 before all else, and the calls of the rings
+--   Placed     the rings of a field, one more at a time
 --   Walks      the walk over the rings gives the rules' answer
 pub mod Cut
 pub mod Inner
 pub mod Calls
+pub mod Placed
 pub mod Walks

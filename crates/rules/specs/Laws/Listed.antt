@@ -4,16 +4,19 @@ use mathlib.Core.Bool.{Bool, true, false, not}
 use mathlib.Core.Path.{_≡_, sym, subst}
 use mathlib.Core.Option.{Option, none, some}
 use mathlib.Core.List.{List, [], _∷_}
-use Prim.Native.Nat.{ℕ}
+use Prim.Native.Nat.{ℕ, suc}
 use lib.Dec.{T, eqb, ltb, leb}
 use lib.IntN.{ℤ}
 use lib.ListN.{length, take}
-use Rattle.rules.specs.Refusals.{Answer, answered, refused, crossed-at, _>>=_, _>>_, _if_, in-use, among, Listed}
+use Rattle.rules.specs.Refusals.{Answer, answered, refused, crossed-at, _>>=_, _>>_, _if_, in-ring, in-use, among, Listed}
 use Rattle.rules.specs.Systems.{System, table, find, system, same-ellipsoid}
 use Rattle.rules.specs.Points.{Point, Ticks, latitude-bad, longitude-bad, plane-bad, forward-checks, inverse-checks, judged, Right-forward-by, Right-inverse-by, Right, plane-by}
 use Rattle.rules.specs.Rings.{Corner, EdgePair}
 use Rattle.rules.specs.Crossing.{crossed}
 use Rattle.rules.specs.RingAnswers.{corners, count-bad, number-bad, any-bad, span-bad, ring-checks, looked-through, not-crossed, area-answer, turning-answer, crossing-answer, nozzle-answer}
+use Rattle.rules.specs.Fields.{Field}
+use Rattle.rules.specs.Placing.{misplaced}
+use Rattle.rules.specs.FieldAnswers.{alone, with-ring, inner-count-bad, inner-checks, placed, outer-accepted, inner-accepted, rings-accepted, inner-read, rings-read, uneven, cut, field-accepted, field-read, accept-answer, field-nozzle-answer, field-position-answer}
 use Rattle.rules.specs.Conversion.{converted, conversion-by}
 use Rattle.rules.specs.JobFile.{Kind, begin-field, corner, close-ring, nozzle-query, point-to-plane, Row, kinds, find-kind, State, no-field, gathering, accepted, begun, cornered, closed, queried, pointed, code-of, number-at, step, read}
 
@@ -73,6 +76,67 @@ module _ (numbers : List ℤ) where
   pub nozzle-listed : (p : Corner) → Listed (nozzle-answer numbers p)
   unfolding nozzle-answer
   nozzle-listed p = bind (ring-checks numbers) _ (ring-listed numbers) (λ r. after (not-crossed r) _ (crossing-listed r) tt)
+
+-- ---- a field
+in-ring-listed : {A : Type 0} (k : ℕ) (a : Answer A) → Listed a → Listed (in-ring k a)
+in-ring-listed k (answered x) h = tt
+in-ring-listed k (refused n) h = h
+in-ring-listed k (crossed-at pair) h = h
+
+inner-checks-listed : (before : ℕ) (numbers : List ℤ) → Listed (inner-checks before numbers)
+unfolding inner-checks
+inner-checks-listed before numbers =
+    after (16 if leb 16 before) _ (test 16 (leb 16 before) tt)
+    (bind (corners numbers) _ (corners-listed numbers) λ r.
+    after (6 if inner-count-bad r) _ (test 6 (inner-count-bad r) tt) (after (7 if any-bad r) _ (test 7 (any-bad r) tt) (after (8 if span-bad r) _ (test 8 (span-bad r) tt) tt)))
+
+placed-listed : (f : Field) (r : List Corner) → Listed (placed f r)
+unfolding placed
+placed-listed f r =
+    after (in-ring (suc (length (f .inner-rings))) (not-crossed r)) _ (in-ring-listed (suc (length (f .inner-rings))) (not-crossed r) (crossing-listed r))
+    (after (15 if misplaced f r) _ (test 15 (misplaced f r) tt) tt)
+
+inner-accepted-listed : (f : Field) (rest : List (List ℤ)) → Listed (inner-accepted f rest)
+unfolding inner-accepted
+inner-accepted-listed f [] = tt
+inner-accepted-listed f (numbers ∷ rest) =
+    bind (inner-checks (length (f .inner-rings)) numbers) _ (inner-checks-listed (length (f .inner-rings)) numbers) λ r.
+    bind (placed f r) _ (placed-listed f r) (λ g. inner-accepted-listed g rest)
+
+inner-read-listed : (f : Field) (rest : List (List ℤ)) → Listed (inner-read f rest)
+unfolding inner-read
+inner-read-listed f [] = tt
+inner-read-listed f (numbers ∷ rest) =
+    bind (inner-checks (length (f .inner-rings)) numbers) _ (inner-checks-listed (length (f .inner-rings)) numbers) (λ r. inner-read-listed (with-ring f r) rest)
+
+accepted-listed : (rings : List (List ℤ)) → Listed (rings-accepted rings)
+unfolding rings-accepted outer-accepted
+accepted-listed [] = tt
+accepted-listed (numbers ∷ rest) =
+    bind (outer-accepted numbers) _ (bind (ring-checks numbers) _ (ring-listed numbers) (λ r. after (not-crossed r) _ (crossing-listed r) tt)) (λ f. inner-accepted-listed f rest)
+
+rings-read-listed : (rings : List (List ℤ)) → Listed (rings-read rings)
+unfolding rings-read
+rings-read-listed [] = tt
+rings-read-listed (numbers ∷ rest) = bind (ring-checks numbers) _ (ring-listed numbers) (λ r. inner-read-listed (alone r) rest)
+
+module _ (counts : List ℕ) (numbers : List ℤ) where
+  field-listed : Listed (field-accepted counts numbers)
+  unfolding field-accepted
+  field-listed = after (6 if uneven counts numbers) _ (test 6 (uneven counts numbers) tt) (accepted-listed (cut counts numbers))
+
+  pub accept-listed : Listed (accept-answer counts numbers)
+  unfolding accept-answer
+  accept-listed = after (field-accepted counts numbers) _ field-listed tt
+
+  pub field-nozzle-listed : (p : Corner) → Listed (field-nozzle-answer counts numbers p)
+  unfolding field-nozzle-answer
+  field-nozzle-listed p = bind (field-accepted counts numbers) _ field-listed (λ f. tt)
+
+  pub field-position-listed : (p : Corner) → Listed (field-position-answer counts numbers p)
+  unfolding field-position-answer field-read
+  field-position-listed p =
+      bind (field-read counts numbers) _ (after (6 if uneven counts numbers) _ (test 6 (uneven counts numbers) tt) (rings-read-listed (cut counts numbers))) (λ f. tt)
 
 -- ---- points
 system-listed : (code : ℕ) → Listed (system code)

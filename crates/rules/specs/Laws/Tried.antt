@@ -2,6 +2,7 @@
 pub mod Files
 pub mod Runs
 pub mod Nozzles
+pub mod Ponds
 pub mod Series
 pub mod Points
 pub mod Limits
