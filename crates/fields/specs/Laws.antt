@@ -3,9 +3,11 @@
 --   Inner      the checks of an inner ring's numbers
 --   Calls      6 before all else, and the calls of the rings
 --   Placed     the rings of a field, one more at a time
+--   Accepting  what the loop that accepts them keeps
 --   Walks      the walk over the rings gives the rules' answer
 pub mod Cut
 pub mod Inner
 pub mod Calls
 pub mod Placed
+pub mod Accepting
 pub mod Walks

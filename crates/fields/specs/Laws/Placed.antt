@@ -6,6 +6,7 @@ use mathlib.Core.List.{List, [], _∷_, _++_, map}
 use Prim.Native.Nat.{ℕ, zero, suc, _+_, _*_, _-_, _<_, _≤_}
 use native.Mathlib.Numerals.{add-one}
 use native.Mathlib.Omega.{arith}
+use native.Mathlib.Decide.{decLt}
 use lib.IntN.{ℤ}
 use lib.ListN.{length, take, drop, getD}
 use lib.Seq.{take-take, take-nil}
@@ -18,7 +19,7 @@ use Rattle.rules.specs.FieldAnswers.{alone, with-ring, inner-checks, placed, su
 use Rattle.ring_corners.specs.Corners.{pairs, Accepted}
 use Rattle.ring_checks.specs.Laws.Accept.{judgement}
 use Rattle.fields.specs.Placed.{as-field, one-more, the-rest}
-use Rattle.fields.specs.Laws.Cut.{length-cut}
+use Rattle.fields.specs.Laws.Inner.{seventeenth, too-long, not-long}
 
 drop-take : (m n k : ℕ) (l : List ℤ) → k ≡ m + n → drop m (take k l) ≡ take n (drop m l)
 drop-take zero n k l e = ap (λ (i : ℕ). take i l) (let f : k ≡ n = omega arith in f)
@@ -40,7 +41,7 @@ cut-first (n ∷ counts) numbers (suc k) =
     drop-of-take : (a b : ℕ) → drop (2 * a) (take (2 * (a + b)) numbers) ≡ take (2 * b) (drop (2 * a) numbers)
     drop-of-take a b = drop-take (2 * a) (2 * b) (2 * (a + b)) numbers (omega arith)
 
-more-field : (rings : List (List ℤ)) (k : ℕ) → 1 ≤ k → k < length rings → as-field (take (suc k) rings) ≡ with-ring (as-field (take k rings)) (pairs (getD rings k []))
+pub more-field : (rings : List (List ℤ)) (k : ℕ) → 1 ≤ k → k < length rings → as-field (take (suc k) rings) ≡ with-ring (as-field (take k rings)) (pairs (getD rings k []))
 unfolding as-field
 more-field [] k h g = absurd (omega arith)
 more-field (o ∷ rest) zero h g = absurd (omega arith)
@@ -64,10 +65,60 @@ inner-rings-of (o ∷ rest) = go rest ∙ less (length rest)
     less n = omega arith
 
 -- ---- one ring more
--- what is said of it is said of the field where it is a refusal; where it passes, the others are asked of the field with it
-after-one : {A : Type 0} (a : Answer Field) (f : Field → Answer A) → ((g : Field) → a ≡ answered g → f g ≡ f g) → Unit {0}
-after-one a f h = tt
+clash : {A : Type 0} {a : A} {n : ℕ} → _≡_ {A = Answer A} (refused n) (answered a) → ⊥
+clash e = let z : _≡_ {A = ℕ} 0 1 = cc e in omega arith
 
-pub rest-refused : (rings : List (List ℤ)) (numbers : List ℤ) (rest : List (List ℤ)) (n : ℕ) → one-more rings numbers ≡ refused n → the-rest rings (numbers ∷ rest) ≡ refused n
+together : {A B C : Type 0} (a : Answer A) (f : A → Answer B) (k : B → Answer C) → (a >>= λ x. f x >>= k) ≡ ((a >>= f) >>= k)
+together (answered x) f k = refl
+together (refused n) f k = refl
+together (crossed-at pair) f k = refl
+
+-- what is left, by what is said of the next ring
+abbrev pub rest-of : List (List ℤ) → Answer Field → Answer Passed
+rest-of rest a = (a >>= λ g. inner-accepted g rest) >> answered passed
+
+pub rest-next : (rings : List (List ℤ)) (numbers : List ℤ) (rest : List (List ℤ)) → the-rest rings (numbers ∷ rest) ≡ rest-of rest (one-more rings numbers)
 unfolding one-more the-rest inner-accepted
-rest-refused rings numbers rest n e = rw (inner-rings-of rings) ?
+rest-next rings numbers rest =
+    rw (inner-rings-of rings) (ap (λ (a : Answer Field). a >> answered passed) (together (inner-checks (length rings - 1) numbers) (placed (as-field rings)) (λ g. inner-accepted g rest)))
+
+-- numbers that pass the checks of an inner ring
+ring-passed : (before : ℕ) (numbers : List ℤ) (r : List Corner) → inner-checks before numbers ≡ answered r → (r ≡ pairs numbers) × Accepted numbers
+ring-passed before numbers r e =
+    elim (decLt before 16) [
+      | no g ↦ absurd (clash (sym (seventeenth before numbers (omega arith)) ∙ e))
+      | yes g ↦
+          elim (decLt 256 (length numbers)) [
+            | yes h ↦ absurd (clash (sym (too-long before numbers g h) ∙ e))
+            | no h ↦ ⊎-elim (λ j. (cc (j .0, e, not-long before numbers g (omega arith)), j .1)) (λ j. absurd (clash (sym (j .1) ∙ sym (not-long before numbers g (omega arith)) ∙ e))) (judgement numbers)
+          ]
+    ]
+
+-- and that are placed well
+placed-passed : (f : Field) (r : List Corner) (g : Field) → placed f r ≡ answered g → g ≡ with-ring f r
+unfolding placed
+placed-passed f r g e = go (in-ring (suc (length (f .inner-rings))) (not-crossed r)) (misplaced f r) e
+  where
+    go : (a : Answer ℕ) (b : Bool) → (a >> (badly-placed if b >> answered (with-ring f r))) ≡ answered g → g ≡ with-ring f r
+    go (answered n) false e = cc e
+    go (answered n) true e = absurd (clash e)
+    go (refused n) b e = absurd (clash e)
+    go (crossed-at pair) b e = absurd (let z : _≡_ {A = ℕ} 0 1 = cc e in omega arith)
+
+pub one-passed : (rings : List (List ℤ)) (numbers : List ℤ) → (one-more rings numbers >> answered passed) ≡ answered passed
+    → (one-more rings numbers ≡ answered (with-ring (as-field rings) (pairs numbers))) × Accepted numbers
+unfolding one-more
+one-passed rings numbers e = go (inner-checks (length rings - 1) numbers) refl e
+  where
+    last : (r : List Corner) (a : Answer Field) → placed (as-field rings) r ≡ a → (a >> answered passed) ≡ answered passed → placed (as-field rings) r ≡ answered (with-ring (as-field rings) r)
+    last r (answered g) e h = e ∙ ap answered (placed-passed (as-field rings) r g e)
+    last r (refused n) e h = absurd (clash h)
+    last r (crossed-at pair) e h = absurd (let z : _≡_ {A = ℕ} 0 1 = cc h in omega arith)
+
+    go : (a : Answer (List Corner)) → inner-checks (length rings - 1) numbers ≡ a → ((a >>= placed (as-field rings)) >> answered passed) ≡ answered passed
+        → ((a >>= placed (as-field rings)) ≡ answered (with-ring (as-field rings) (pairs numbers))) × Accepted numbers
+    go (answered r) e h =
+        let p = ring-passed (length rings - 1) numbers r e in
+        (last r (placed (as-field rings) r) refl h ∙ ap (λ (s : List Corner). answered (with-ring (as-field rings) s)) (p .0), p .1)
+    go (refused n) e h = absurd (clash h)
+    go (crossed-at pair) e h = absurd (let z : _≡_ {A = ℕ} 0 1 = cc h in omega arith)
