@@ -8,15 +8,15 @@ ghost use Rattle.ring_boxes.specs.Boxes.{Spans, RunEnd, Filled, Boxed};
 use ring_corners::corners;
 
 // A box: its lowest and its highest numbers.
-struct Reach {
-    low_x: i64,
-    high_x: i64,
-    low_y: i64,
-    high_y: i64,
+pub struct Reach {
+    pub low_x: i64,
+    pub high_x: i64,
+    pub low_y: i64,
+    pub high_y: i64,
 }
 
 // The least box of the corners from number `start` to number `end`.
-fn box_of(corners: &[i64], start: usize, end: usize) -> Reach
+pub fn box_of(corners: &[i64], start: usize, end: usize) -> Reach
     requires { ⌜ (start ≤ end) × (end < length (pairs (now corners))) × (length (pairs (now corners)) ≤ 1024) ⌝ }
     ensures { λ r. ⌜ Spans (pairs (now (corners .entry))) start end (corner (r .«low_x») (r .«low_y»)) (corner (r .«high_x») (r .«high_y»)) ⌝ }
 {

@@ -17,10 +17,18 @@ pairs [] = []
 pairs (X ∷ []) = []
 pairs (X ∷ Y ∷ l) = corner X Y ∷ pairs l
 
--- two corners that lie within the span of check 8
-pub record Near (a b : Corner) : Type 0 where
-  pub x-near : natAbs (a .x -ℤ b .x) ≤ 20_000_000
-  pub y-near : natAbs (a .y -ℤ b .y) ≤ 20_000_000
+-- two corners that lie at most w apart, on either axis
+pub record Apart (w : ℕ) (a b : Corner) : Type 0 where
+  pub x-near : natAbs (a .x -ℤ b .x) ≤ w
+  pub y-near : natAbs (a .y -ℤ b .y) ≤ w
+
+-- within the span of check 8, as the corners of one ring are
+abbrev pub Near : Corner → Corner → Type 0
+Near = Apart 20_000_000
+
+-- within twice the span, as the corners of two edges of different rings are where the edges' boxes touch
+abbrev pub Wide : Corner → Corner → Type 0
+Wide = Apart 40_000_000
 
 -- a list that the checks 6, 7 and 8 accept
 pub record Accepted (l : List ℤ) : Type 0 where

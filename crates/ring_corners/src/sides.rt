@@ -1,8 +1,8 @@
-// On which side of an edge a point lies: the sign of D, exact for every point. Products are made only where the point is as near as the corners are.
+// On which side of an edge a point lies: the sign of D, exact for every point. Products are made only where the point is so near that they fit.
 ghost use mathlib.Core.Path.{_≡_};
 ghost use lib.Signed.{_≤ℤ_, _<ℤ_};
 ghost use Rattle.rules.specs.Rings.{D};
-ghost use Rattle.ring_corners.specs.Corners.{corner, Near};
+ghost use Rattle.ring_corners.specs.Corners.{corner, Near, Wide};
 ghost use Rattle.ring_corners.specs.Sides.{sign-of};
 
 pub enum Sign {
@@ -11,9 +11,9 @@ pub enum Sign {
     Negative,
 }
 
-// D of the edge from a to b at p.
+// D of the edge from a to b at p, which may be an edge of one ring and a corner of another.
 pub fn side(ax: i64, ay: i64, bx: i64, by: i64, px: i64, py: i64) -> i64
-    requires { ⌜ Near (corner bx by) (corner ax ay) × Near (corner px py) (corner ax ay) ⌝ }
+    requires { ⌜ Wide (corner bx by) (corner ax ay) × Wide (corner px py) (corner ax ay) ⌝ }
     ensures { λ r. ⌜ r ≡ D (corner ax ay) (corner bx by) (corner px py) ⌝ }
 {
     (bx - ax) * (py - ay) - (px - ax) * (by - ay)

@@ -11,7 +11,7 @@ use lib.Signed.{ltZ}
 use Rattle.rules.specs.Rings.{Corner, _to_, origin, D, isZero, edge, edges, EdgePair}
 use Rattle.rules.specs.RingAnswers.{smaller, larger}
 use Rattle.rules.specs.Crossing.{aside, meets, first-with}
-use Rattle.ring_corners.specs.Corners.{Near}
+use Rattle.ring_corners.specs.Corners.{Near, Wide}
 
 -- c and d lie both above high, or both below low
 unfoldable pub outside : ℤ → ℤ → ℤ → ℤ → Bool
@@ -21,12 +21,12 @@ outside low high c d = (ltZ high c && ltZ high d) || (ltZ c low && ltZ d low)
 unfoldable pub away : ℤ → ℤ → ℤ → ℤ → Corner → Corner → Bool
 away low-x high-x low-y high-y c d = outside low-x high-x (c .x) (d .x) || outside low-y high-y (c .y) (d .y)
 
--- low and high are the numbers of the box of the edge from corner k to the next
-pub record BoxOf (r : List Corner) (k : ℕ) (low-x high-x low-y high-y : ℤ) : Type 0 where
-  pub low-x-is : low-x ≡ smaller (getD r k origin .x) (getD r (k + 1) origin .x)
-  pub high-x-is : high-x ≡ larger (getD r k origin .x) (getD r (k + 1) origin .x)
-  pub low-y-is : low-y ≡ smaller (getD r k origin .y) (getD r (k + 1) origin .y)
-  pub high-y-is : high-y ≡ larger (getD r k origin .y) (getD r (k + 1) origin .y)
+-- low and high are the numbers of the box of the edge from a to b
+pub record BoxOf (a b : Corner) (low-x high-x low-y high-y : ℤ) : Type 0 where
+  pub low-x-is : low-x ≡ smaller (a .x) (b .x)
+  pub high-x-is : high-x ≡ larger (a .x) (b .x)
+  pub low-y-is : low-y ≡ smaller (a .y) (b .y)
+  pub high-y-is : high-y ≡ larger (a .y) (b .y)
 
 -- the runs before number n have boxes, and every run that has a box and an edge before number `stop` is one of them
 pub record RunsTo (boxes stop n : ℕ) : Type 0 where
@@ -56,14 +56,14 @@ ahead a b c = (b .x -ℤ a .x) *ℤ (c .x -ℤ b .x) +ℤ (b .y -ℤ a .y) *ℤ 
 unfoldable pub no-length : Corner → Corner → Bool
 no-length a b = isZero (b .x -ℤ a .x) && isZero (b .y -ℤ a .y)
 
--- four corners within the span, as the products of the test want them
+-- four corners within twice the span, as the products of the test want them
 pub record AllNear (a b c d : Corner) : Type 0 where
-  pub b-a : Near b a
-  pub c-a : Near c a
-  pub d-a : Near d a
-  pub d-c : Near d c
-  pub a-c : Near a c
-  pub b-c : Near b c
+  pub b-a : Wide b a
+  pub c-a : Wide c a
+  pub d-a : Wide d a
+  pub d-c : Wide d c
+  pub a-c : Wide a c
+  pub b-c : Wide b c
 
 -- three corners in a row
 pub record RowNear (a b c : Corner) : Type 0 where

@@ -68,7 +68,7 @@ fn both_aside(ax: i64, ay: i64, bx: i64, by: i64, cx: i64, cy: i64, dx: i64, dy:
 
 // Whether neither of the edges a-b and c-d lies to one side of the other's line. Where their boxes touch, it says whether they share a point.
 pub fn straddles(ax: i64, ay: i64, bx: i64, by: i64, cx: i64, cy: i64, dx: i64, dy: i64) -> bool
-    requires { ⌜ AllNear (corner ax ay) (corner bx by) (corner cx cy) (corner dx dy) × AllNear (corner cx cy) (corner dx dy) (corner ax ay) (corner bx by) ⌝ }
+    requires { ⌜ AllNear (corner ax ay) (corner bx by) (corner cx cy) (corner dx dy) ⌝ }
     ensures { λ r. ⌜ r ≡ straddle (corner ax ay) (corner bx by) (corner cx cy) (corner dx dy) ⌝ }
 {
     if both_aside(ax, ay, bx, by, cx, cy, dx, dy) {

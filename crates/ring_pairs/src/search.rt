@@ -45,7 +45,7 @@ fn fold_at(corners: &[i64], i: usize, j: usize, k: usize) -> bool
 
 // Whether the box of two corners, number i of one list and number j of another, has no point in common with the box from low to high. The two are the ends of an
 // edge, or the lowest and the highest numbers of a run of edges.
-fn away_from(
+pub fn away_from(
     first: &[i64],
     i: usize,
     second: &[i64],
@@ -85,7 +85,7 @@ fn meet_by_box(
     i: usize,
     j: usize,
 ) -> bool
-    requires { ⌜ Accepted (now corners) × (k + 1 < length (pairs (now corners))) × (i < length (pairs (now corners))) × (j < length (pairs (now corners))) × BoxOf (pairs (now corners)) k «low_x» «high_x» «low_y» «high_y» ⌝ }
+    requires { ⌜ Accepted (now corners) × (k + 1 < length (pairs (now corners))) × (i < length (pairs (now corners))) × (j < length (pairs (now corners))) × BoxOf (getD (pairs (now corners)) k origin) (getD (pairs (now corners)) (k + 1) origin) «low_x» «high_x» «low_y» «high_y» ⌝ }
     ensures { λ r. ⌜ r ≡ meets (getD (pairs (now (corners .entry))) k origin to getD (pairs (now (corners .entry))) (k + 1) origin) (getD (pairs (now (corners .entry))) i origin to getD (pairs (now (corners .entry))) j origin) ⌝ }
 {
     if away_from(corners, i, corners, j, low_x, high_x, low_y, high_y) {
@@ -96,7 +96,7 @@ fn meet_by_box(
 
 // The first number from `start` to before `stop` at which a box is not away, or `stop`: the box of that corner of one list and of the corner `shift` numbers on of another.
 // By the ring's corners and the next ones these are the boxes of edges, by the lowest and the highest corners those of runs. Most pairs of edges end here, and nothing was multiplied.
-fn first_near(
+pub fn first_near(
     first: &[i64],
     second: &[i64],
     shift: usize,
@@ -135,7 +135,7 @@ fn runs_to(boxes: usize, stop: usize) -> usize
 
 // The first edge from number `start` to before number `stop` whose box is not away, or `stop`. Runs whose boxes are away are passed whole. Past the last box, so also where there
 // are no boxes at all, edge by edge.
-fn next_near(
+pub fn next_near(
     corners: &[i64],
     lows: &[i64],
     highs: &[i64],
@@ -183,7 +183,7 @@ fn first_met_by(
     start: usize,
     stop: usize,
 ) -> usize
-    requires { ⌜ Accepted (now corners) × (k + 1 < length (pairs (now corners))) × (start ≤ stop) × (stop < length (pairs (now corners))) × BoxOf (pairs (now corners)) k «low_x» «high_x» «low_y» «high_y» × Boxed (pairs (now corners)) (pairs (now lows)) (pairs (now highs)) ⌝ }
+    requires { ⌜ Accepted (now corners) × (k + 1 < length (pairs (now corners))) × (start ≤ stop) × (stop < length (pairs (now corners))) × BoxOf (getD (pairs (now corners)) k origin) (getD (pairs (now corners)) (k + 1) origin) «low_x» «high_x» «low_y» «high_y» × Boxed (pairs (now corners)) (pairs (now lows)) (pairs (now highs)) ⌝ }
     ensures { λ r. ⌜ FirstMet (pairs (now (corners .entry))) k start stop r ⌝ }
 {
     let mut l = start;

@@ -21,7 +21,7 @@ north c = c .x
 abbrev pub east : Corner → ℤ
 east c = c .y
 
-smaller-both : (a b : ℤ) → (smaller a b ≤ℤ a) × (smaller a b ≤ℤ b)
+pub smaller-both : (a b : ℤ) → (smaller a b ≤ℤ a) × (smaller a b ≤ℤ b)
 unfolding smaller
 smaller-both a b = go (ltZ b a) refl
   where
@@ -29,7 +29,7 @@ smaller-both a b = go (ltZ b a) refl
     go true e = (<ℤ→≤ℤ (ltZ-true b a .0 e), ≤ℤ-refl b)
     go false e = (≤ℤ-refl a, ltZ-false b a .0 e)
 
-larger-both : (a b : ℤ) → (a ≤ℤ larger a b) × (b ≤ℤ larger a b)
+pub larger-both : (a b : ℤ) → (a ≤ℤ larger a b) × (b ≤ℤ larger a b)
 unfolding larger
 larger-both a b = go (ltZ a b) refl
   where

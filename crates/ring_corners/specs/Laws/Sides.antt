@@ -14,7 +14,7 @@ use Rattle.arith.specs.Laws.Ring.{ring, Z·ring, by-ring}
 use Rattle.rules.specs.Rings.{Corner, Edge, D, turn, bit, _to_, isZero, between, on}
 use Rattle.rules.specs.Laws.Checks.{ltZ-true, ltZ-false}
 use Rattle.rules.specs.Laws.Sums.{side-back}
-use Rattle.ring_corners.specs.Corners.{Near}
+use Rattle.ring_corners.specs.Corners.{Apart, Near, Wide}
 use Rattle.ring_corners.specs.Sides.{sign-of, rise-of, fall-of}
 use Rattle.ring_corners.specs.declared.sides.Sign.{Sign}
 use Rattle.ring_corners.specs.declared.sides.Sign.the-variants.{Positive, Zero, Negative}
@@ -88,11 +88,14 @@ Amid a b z = ((a ≤ℤ z) × (z ≤ℤ b)) ⊎ ((b ≤ℤ z) × (z ≤ℤ a))
 amid-near : (a b z : ℤ) (n : ℕ) → natAbs (b -ℤ a) ≤ n → Amid a b z → natAbs (z -ℤ a) ≤ n
 amid-near a b z n h k = ⊎-elim (λ k. between-up a b z n h (k .0) (k .1)) (λ k. between-down a b z n h (k .0) (k .1)) k
 
-pub near-between : (a b p : Corner) → Near b a → Amid (a .x) (b .x) (p .x) → Amid (a .y) (b .y) (p .y) → Near p a
-near-between a b p h k l = record {
-  x-near = amid-near (a .x) (b .x) (p .x) 20_000_000 (h .x-near) k;
-  y-near = amid-near (a .y) (b .y) (p .y) 20_000_000 (h .y-near) l;
+pub near-between : {w : ℕ} (a b p : Corner) → Apart w b a → Amid (a .x) (b .x) (p .x) → Amid (a .y) (b .y) (p .y) → Apart w p a
+near-between {w} a b p h k l = record {
+  x-near = amid-near (a .x) (b .x) (p .x) w (h .x-near) k;
+  y-near = amid-near (a .y) (b .y) (p .y) w (h .y-near) l;
 }
+
+pub near-wide : {a b : Corner} → Near a b → Wide a b
+near-wide h = let x = h .x-near in let y = h .y-near in record { x-near = omega arith; y-near = omega arith }
 
 -- ---- what an edge adds to the turning number, by X alone and then by the sign of D
 rise-bit : (z : ℤ) → bit (ltZ (pos 0) z) -ℤ pos 0 ≡ rise-of (sign-of z)

@@ -16,7 +16,7 @@ use Rattle.ring_corners.specs.Laws.Tests.{and-true}
 use Rattle.ring_boxes.specs.Boxes.{Inside, RunEnd, Boxed}
 use Rattle.ring_pairs.specs.Crossings.{outside, away, Skipped}
 
-both : (a b : Bool) → (a && b) ≡ true → (a ≡ true) × (b ≡ true)
+pub both : (a b : Bool) → (a && b) ≡ true → (a ≡ true) × (b ≡ true)
 both true b e = (refl, e)
 both false b e = (e, absurd (subst T (sym e) tt))
 

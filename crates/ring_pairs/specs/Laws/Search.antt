@@ -28,11 +28,11 @@ leg r i = getD r i origin to getD r (i + 1) origin
 abbrev pub close : List Corner → ℕ → Edge
 close r i = getD r i origin to getD r 0 origin
 
-leg-at : (r : List Corner) (k : ℕ) → k + 1 < length r → edge r k ≡ leg r k
+pub leg-at : (r : List Corner) (k : ℕ) → k + 1 < length r → edge r k ≡ leg r k
 unfolding edge
 leg-at r k h = edge-at (origin to origin) origin r k (omega arith) ∙ ap (λ (i : ℕ). getD r k origin to getD r i origin) (sym (add-one k))
 
-close-at : (r : List Corner) (k : ℕ) → k + 1 ≡ length r → edge r k ≡ close r k
+pub close-at : (r : List Corner) (k : ℕ) → k + 1 ≡ length r → edge r k ≡ close r k
 unfolding edge
 close-at r k h = edge-last (origin to origin) origin r k (omega arith)
 
@@ -135,26 +135,35 @@ scanned-met {r} {k} {start} {stop} {l} s h g f =
     total : (start l : ℕ) → start ≤ l → start + (l - start) ≡ l
     total start l h = omega arith
 
--- ---- the loop over the edges that are no neighbours of edge k: none from `start` to before l meets it
-pub record Met-none (r : List Corner) (k start stop l : ℕ) : Type 0 where
+-- ---- the loop over edges of a ring: f, a test of an edge, is met by none from `start` to before l. Of the edges that are no neighbours of edge k it's the test with edge k
+pub record Met-none (f : Edge → Bool) (r : List Corner) (start stop l : ℕ) : Type 0 where
   pub low : start ≤ l
   pub high : l ≤ stop
-  pub none-met : (j : ℕ) → start ≤ j → j < l → meets (leg r k) (leg r j) ≡ false
+  pub none-met : (j : ℕ) → start ≤ j → j < l → f (leg r j) ≡ false
 
-pub met-start : (r : List Corner) (k start stop : ℕ) → start ≤ stop → Met-none r k start stop start
-met-start r k start stop h = record { low = omega arith; high = h; none-met = λ j a b. absurd (omega arith) }
+pub met-start : (f : Edge → Bool) (r : List Corner) (start stop : ℕ) → start ≤ stop → Met-none f r start stop start
+met-start f r start stop h = record { low = omega arith; high = h; none-met = λ j a b. absurd (omega arith) }
 
-module _ {r : List Corner} {k start stop l : ℕ} (s : Met-none r k start stop l) where
-  pub met-step : l < stop → meets (leg r k) (leg r l) ≡ false → Met-none r k start stop (l + 1)
+module _ {f : Edge → Bool} {r : List Corner} {start stop l : ℕ} (s : Met-none f r start stop l) where
+  pub met-step : l < stop → f (leg r l) ≡ false → Met-none f r start stop (l + 1)
   met-step h e = record {
     low = omega (arith, s .low);
     high = omega arith;
     none-met = λ j a b. elim (decLt j l) [ yes g ↦ s .none-met j a g | no g ↦ here j (omega arith) ];
   }
     where
-      here : (j : ℕ) → j ≡ l → meets (leg r k) (leg r j) ≡ false
-      here j f = rw f e
+      here : (j : ℕ) → j ≡ l → f (leg r j) ≡ false
+      here j g = rw g e
 
+  -- none before l meets the test, and those from l to before m have a box that is away, and so do not
+  pub skip-on : {lx hx ly hy : ℤ} {m : ℕ} → ((c d : Corner) → away lx hx ly hy c d ≡ true → f (c to d) ≡ false) → Skipped r r 1 lx hx ly hy l stop m → Met-none f r start stop m
+  skip-on u t = record {
+    low = omega (arith, s .low, t .low);
+    high = t .high;
+    none-met = λ j a c. elim (decLt j l) [ yes g ↦ s .none-met j a g | no g ↦ u (getD r j origin) (getD r (j + 1) origin) (t .skipped j (omega arith) c) ];
+  }
+
+module _ {r : List Corner} {k start stop l : ℕ} (s : Met-none (meets (leg r k)) r start stop l) where
   pub met-hit : meets (leg r k) (leg r l) ≡ true → FirstMet r k start stop l
   met-hit e = record { low = s .low; high = s .high; met = λ h. e; not-before = s .none-met }
 
@@ -259,19 +268,11 @@ module _ {first second : List Corner} {shift : ℕ} {lx hx ly hy : ℤ} {start s
   pub near-join : {end n : ℕ} → FirstNear first second shift lx hx ly hy l end n → end ≤ stop → (n < stop → n < end) → FirstNear first second shift lx hx ly hy start stop n
   near-join t h g = record { passed = skip-join (t .passed) h; near = λ p. t .near (g p) }
 
-module _ {r : List Corner} {k : ℕ} {lx hx ly hy : ℤ} (b : BoxOf r k lx hx ly hy) where
+module _ {a b : Corner} {lx hx ly hy : ℤ} (box : BoxOf a b lx hx ly hy) where
   -- an edge whose box is away does not meet
-  pub unmet : (c d : Corner) → away lx hx ly hy c d ≡ true → meets (leg r k) (c to d) ≡ false
-  unmet c d e = away-apart (getD r k origin) (getD r (k + 1) origin) c d (rw (b .low-x-is, b .high-x-is, b .low-y-is, b .high-y-is) at e)
+  pub unmet : (c d : Corner) → away lx hx ly hy c d ≡ true → meets (a to b) (c to d) ≡ false
+  unmet c d e = away-apart a b c d (rw (box .low-x-is, box .high-x-is, box .low-y-is, box .high-y-is) at e)
 
   -- of one that is not away the sides decide
-  pub by-sides : (c d : Corner) → away lx hx ly hy c d ≡ false → straddle (getD r k origin) (getD r (k + 1) origin) c d ≡ meets (leg r k) (c to d)
-  by-sides c d e = sym (near-sides (getD r k origin) (getD r (k + 1) origin) c d (rw (b .low-x-is, b .high-x-is, b .low-y-is, b .high-y-is) at e))
-
-  -- none before l meets, and those from l to before m are away
-  pub skip-on : {start stop l m : ℕ} → Met-none r k start stop l → Skipped r r 1 lx hx ly hy l stop m → Met-none r k start stop m
-  skip-on {start} {stop} {l} {m} s t = record {
-    low = omega (arith, s .low, t .low);
-    high = t .high;
-    none-met = λ j a c. elim (decLt j l) [ yes g ↦ s .none-met j a g | no g ↦ unmet (getD r j origin) (getD r (j + 1) origin) (t .skipped j (omega arith) c) ];
-  }
+  pub by-sides : (c d : Corner) → away lx hx ly hy c d ≡ false → straddle a b c d ≡ meets (a to b) (c to d)
+  by-sides c d e = sym (near-sides a b c d (rw (box .low-x-is, box .high-x-is, box .low-y-is, box .high-y-is) at e))

@@ -3,12 +3,13 @@ use mathlib.Core.Path.{_∙_, ap}
 use mir.Facts.{toZ-ofZ}
 use Rattle.ring_corners.specs.Sides.{sign-of}
 use Rattle.ring_corners.specs.Laws.Signed.{held}
+use Rattle.ring_corners.specs.Laws.Sides.{near-wide}
 use borrow.Author.Needs.{needs}
 use Rattle.ring_corners.proofs.sides.near_sign.Statement.{statement}
 use Rattle.ring_corners.proofs.sides.near_sign.Tie as tie
 
 side-requires : tie.Need-side-requires
-side-requires c κs = rw (toZ-ofZ (c .fits .ax), toZ-ofZ (c .fits .ay), toZ-ofZ (c .fits .bx), toZ-ofZ (c .fits .by), toZ-ofZ (c .fits .px), toZ-ofZ (c .fits .py)) (c .pre)
+side-requires c κs = rw (toZ-ofZ (c .fits .ax), toZ-ofZ (c .fits .ay), toZ-ofZ (c .fits .bx), toZ-ofZ (c .fits .by), toZ-ofZ (c .fits .px), toZ-ofZ (c .fits .py)) (near-wide (c .pre .0), near-wide (c .pre .1))
 
 sign-of-requires : tie.Need-sign-of-requires
 sign-of-requires c κs = search needs

@@ -5,6 +5,7 @@ use Rattle.rules.specs.Crossing.{aside}
 use Rattle.ring_corners.specs.Corners.{corner}
 use Rattle.ring_pairs.specs.Crossings.{AllNear}
 use Rattle.ring_corners.specs.Laws.Signed.{raw, raw-is}
+use Rattle.ring_pairs.specs.Laws.Nearness.{near-back}
 use Rattle.ring_pairs.specs.Laws.Crossings.{aside-first, aside-second, aside-neither}
 use Rattle.ring_pairs.proofs.meeting.straddles.Statement.{statement}
 use Rattle.ring_pairs.proofs.meeting.straddles.Tie as tie
@@ -42,10 +43,10 @@ module _ (st : tie.Start) where
   back = rw (raw-is (st .fits .ax) (st .fits .ay), raw-is (st .fits .bx) (st .fits .by), raw-is (st .fits .cx) (st .fits .cy), raw-is (st .fits .dx) (st .fits .dy))
 
   forth-near : AllNear a′ b′ e′ f′
-  forth-near = rw (raw-is (st .fits .ax) (st .fits .ay), raw-is (st .fits .bx) (st .fits .by), raw-is (st .fits .cx) (st .fits .cy), raw-is (st .fits .dx) (st .fits .dy)) (st .pre .0)
+  forth-near = rw (raw-is (st .fits .ax) (st .fits .ay), raw-is (st .fits .bx) (st .fits .by), raw-is (st .fits .cx) (st .fits .cy), raw-is (st .fits .dx) (st .fits .dy)) (st .pre)
 
   back-near : AllNear e′ f′ a′ b′
-  back-near = rw (raw-is (st .fits .ax) (st .fits .ay), raw-is (st .fits .bx) (st .fits .by), raw-is (st .fits .cx) (st .fits .cy), raw-is (st .fits .dx) (st .fits .dy)) (st .pre .1)
+  back-near = rw (raw-is (st .fits .ax) (st .fits .ay), raw-is (st .fits .bx) (st .fits .by), raw-is (st .fits .cx) (st .fits .cy), raw-is (st .fits .dx) (st .fits .dy)) (near-back (st .pre))
 
 both-aside-requires : tie.Need-both-aside-requires
 both-aside-requires c κs = forth-near c

@@ -1,30 +1,32 @@
 -- No edge that was passed meets edge k. Assumes nothing.
 use mathlib.Core.Path.{_≡_, sym, _∙_}
-use Prim.Native.Nat.{_-_}
+use Prim.Native.Nat.{_+_, _-_}
 use native.Mathlib.Omega.{arith}
+use lib.ListN.{getD}
 use mir.Facts.{toZ-ofZ}
 use mir.Syntax.{w64}
 use mir.Val.{toZ, ofZ}
+use Rattle.rules.specs.Rings.{origin}
 use Rattle.rules.specs.Crossing.{meets}
 use Rattle.ring_corners.specs.Corners.{pairs}
 use Rattle.ring_pairs.specs.Crossings.{BoxOf}
-use Rattle.ring_pairs.specs.Laws.Search.{Met-none, met-start, met-step, met-hit, met-end, leg, by-sides, skip-on}
+use Rattle.ring_pairs.specs.Laws.Search.{Met-none, met-start, met-step, met-hit, met-end, leg, unmet, by-sides, skip-on}
 use Rattle.ring_pairs.proofs.search.first_met_by.Statement.{statement}
 use Rattle.ring_pairs.proofs.search.first_met_by.Tie as tie
 
 abbrev Inv-loop : tie.InvT-loop
-Inv-loop corners lows highs k low-x high-x low-y high-y start stop l₀ l = Met-none (pairs corners) k start stop l
+Inv-loop corners lows highs k low-x high-x low-y high-y start stop l₀ l = Met-none (meets (leg (pairs corners) k)) (pairs corners) start stop l
 
 abbrev μ-loop : tie.MeasureT-loop
 μ-loop corners lows highs k low-x high-x low-y high-y start stop l₀ l = stop - l
 
 -- the box as a call hands it on
-boxed : (st : tie.Start Inv-loop μ-loop) → BoxOf (pairs (st .args .corners .now)) (st .args .k) (toZ w64 (ofZ w64 (st .args .low-x))) (toZ w64 (ofZ w64 (st .args .high-x))) (toZ w64 (ofZ w64 (st .args .low-y))) (toZ w64 (ofZ w64 (st .args .high-y)))
+boxed : (st : tie.Start Inv-loop μ-loop) → BoxOf (getD (pairs (st .args .corners .now)) (st .args .k) origin) (getD (pairs (st .args .corners .now)) (st .args .k + 1) origin) (toZ w64 (ofZ w64 (st .args .low-x))) (toZ w64 (ofZ w64 (st .args .high-x))) (toZ w64 (ofZ w64 (st .args .low-y))) (toZ w64 (ofZ w64 (st .args .high-y)))
 boxed st = rw (toZ-ofZ (st .fits .low-x), toZ-ofZ (st .fits .high-x), toZ-ofZ (st .fits .low-y), toZ-ofZ (st .fits .high-y)) (st .pre .4)
 
 -- as far as the next edge that is near
-passed : (c : tie.After-next-near Inv-loop μ-loop) → Met-none (pairs (c .before .before .before .args .corners .now)) (c .before .before .before .args .k) (c .before .before .before .args .start) (c .before .before .before .args .stop) (c .next-near .result)
-passed c = skip-on (boxed (c .before .before .before)) (c .before .before .loop .inv) (c .next-near .ensures .passed)
+passed : (c : tie.After-next-near Inv-loop μ-loop) → Met-none (meets (leg (pairs (c .before .before .before .args .corners .now)) (c .before .before .before .args .k))) (pairs (c .before .before .before .args .corners .now)) (c .before .before .before .args .start) (c .before .before .before .args .stop) (c .next-near .result)
+passed c = skip-on (c .before .before .loop .inv) (unmet (boxed (c .before .before .before))) (c .next-near .ensures .passed)
 
 -- that edge's test is of the sides alone
 met : (c : tie.After-straddle-at Inv-loop μ-loop)
@@ -32,7 +34,7 @@ met : (c : tie.After-straddle-at Inv-loop μ-loop)
 met c = sym (c .straddle-at .ensures ∙ by-sides (boxed (c .before .before .before .before .before)) _ _ (c .before .before .next-near .ensures .near (c .before .if1 .left)))
 
 loop-holds : tie.Need-loop-holds Inv-loop μ-loop
-loop-holds c = met-start (pairs (c .args .corners .now)) (c .args .k) (c .args .start) (c .args .stop) (c .pre .2)
+loop-holds c = met-start (meets (leg (pairs (c .args .corners .now)) (c .args .k))) (pairs (c .args .corners .now)) (c .args .start) (c .args .stop) (c .pre .2)
 
 next-near-requires : tie.Need-next-near-requires Inv-loop μ-loop
 next-near-requires c κs =

@@ -1,5 +1,6 @@
 -- Boxes that are away, or else the sides. Assumes nothing.
 use mathlib.Core.Path.{sym, _∙_}
+use Prim.Native.Nat.{_+_}
 use native.Mathlib.Omega.{arith}
 use lib.ListN.{getD}
 use mir.Facts.{toZ-ofZ}
@@ -13,7 +14,7 @@ use Rattle.ring_pairs.proofs.search.meet_by_box.Statement.{statement}
 use Rattle.ring_pairs.proofs.search.meet_by_box.Tie as tie
 
 -- the box as a call hands it on
-boxed : (st : tie.Start) → BoxOf (pairs (st .args .corners .now)) (st .args .k) (toZ w64 (ofZ w64 (st .args .low-x))) (toZ w64 (ofZ w64 (st .args .high-x))) (toZ w64 (ofZ w64 (st .args .low-y))) (toZ w64 (ofZ w64 (st .args .high-y)))
+boxed : (st : tie.Start) → BoxOf (getD (pairs (st .args .corners .now)) (st .args .k) origin) (getD (pairs (st .args .corners .now)) (st .args .k + 1) origin) (toZ w64 (ofZ w64 (st .args .low-x))) (toZ w64 (ofZ w64 (st .args .high-x))) (toZ w64 (ofZ w64 (st .args .low-y))) (toZ w64 (ofZ w64 (st .args .high-y)))
 boxed st = rw (toZ-ofZ (st .fits .low-x), toZ-ofZ (st .fits .high-x), toZ-ofZ (st .fits .low-y), toZ-ofZ (st .fits .high-y)) (st .pre .4)
 
 away-from-requires : tie.Need-away-from-requires

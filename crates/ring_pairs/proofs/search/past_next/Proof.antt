@@ -1,10 +1,12 @@
 -- The box of edge k by its two ends; the edges between, and the last edge, in their order. Assumes nothing.
 use mathlib.Core.Path.{sym, _∙_}
 use mathlib.Core.List.{List}
+use Prim.Native.Nat.{_+_}
 use native.Mathlib.Omega.{arith}
+use lib.ListN.{getD}
 use mir.Syntax.{w64}
 use mir.Val.{toZ, ofZ}
-use Rattle.rules.specs.Rings.{Corner}
+use Rattle.rules.specs.Rings.{Corner, origin}
 use Rattle.ring_corners.specs.Corners.{pairs}
 use Rattle.ring_pairs.specs.Crossings.{BoxOf}
 use Rattle.ring_corners.specs.Laws.Signed.{held}
@@ -20,7 +22,7 @@ module _ (c : tie.After-greater2) where
   abbrev r : List Corner
   r = pairs (st .args .corners .now)
 
-  box : BoxOf r (st .args .k) (toZ w64 (ofZ w64 (c .before .before .before .lesser .result))) (toZ w64 (ofZ w64 (c .before .before .greater .result))) (toZ w64 (ofZ w64 (c .before .lesser2 .result))) (toZ w64 (ofZ w64 (c .greater2 .result)))
+  box : BoxOf (getD r (st .args .k) origin) (getD r (st .args .k + 1) origin) (toZ w64 (ofZ w64 (c .before .before .before .lesser .result))) (toZ w64 (ofZ w64 (c .before .before .greater .result))) (toZ w64 (ofZ w64 (c .before .lesser2 .result))) (toZ w64 (ofZ w64 (c .greater2 .result)))
   box = record {
     low-x-is = held (record { sfits = c .before .before .before .lesser .ok }) (rw (held (record { sfits = c .before .before .before .before .before .before .before .x-at .ok }) (c .before .before .before .before .before .before .before .x-at .ensures), held (record { sfits = c .before .before .before .before .before .x-at2 .ok }) (c .before .before .before .before .before .x-at2 .ensures)) at (c .before .before .before .lesser .ensures));
     high-x-is = held (record { sfits = c .before .before .greater .ok }) (rw (held (record { sfits = c .before .before .before .before .before .before .before .x-at .ok }) (c .before .before .before .before .before .before .before .x-at .ensures), held (record { sfits = c .before .before .before .before .before .x-at2 .ok }) (c .before .before .before .before .before .x-at2 .ensures)) at (c .before .before .greater .ensures));

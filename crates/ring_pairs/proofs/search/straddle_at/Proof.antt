@@ -56,7 +56,7 @@ y-at-requires-4 c κs = c .before .before .before .before .before .before .befor
 straddles-requires : tie.Need-straddles-requires
 straddles-requires c κs =
     let a = st c .pre in
-    rw (at-i c, at-j c, at-k c, at-l c) (all-near (a .0) (a .1) (a .2) (a .3) (a .4), all-near (a .0) (a .3) (a .4) (a .1) (a .2))
+    rw (at-i c, at-j c, at-k c, at-l c) (all-near (a .0) (a .1) (a .2) (a .3) (a .4))
 
 returns : tie.Need-returns
 returns c = rw (at-i (c .before), at-j (c .before), at-k (c .before), at-l (c .before)) at (c .straddles .ensures)
