@@ -31,7 +31,7 @@ implied′ : (x y : Bool) → (x ≡ true → y ≡ true) → x ≡ (y && x)
 implied′ true y h = sym (and-true (h refl) refl)
 implied′ false y h = sym (and-right y refl)
 
-larger-below : (a b c : ℤ) → ltZ (larger a b) c ≡ (ltZ a c && ltZ b c)
+pub larger-below : (a b c : ℤ) → ltZ (larger a b) c ≡ (ltZ a c && ltZ b c)
 unfolding larger
 larger-below a b c = go (ltZ a b) refl
   where
@@ -39,7 +39,7 @@ larger-below a b c = go (ltZ a b) refl
     go true e = implied′ (ltZ b c) (ltZ a c) (λ h. ltZ-true a c .1 (<ℤ-trans (ltZ-true a b .0 e) (ltZ-true b c .0 h)))
     go false e = implied (ltZ a c) (ltZ b c) (λ h. ltZ-true b c .1 (≤ℤ-<ℤ-trans (ltZ-false a b .0 e) (ltZ-true a c .0 h)))
 
-smaller-above : (a b c : ℤ) → ltZ c (smaller a b) ≡ (ltZ c a && ltZ c b)
+pub smaller-above : (a b c : ℤ) → ltZ c (smaller a b) ≡ (ltZ c a && ltZ c b)
 unfolding smaller
 smaller-above a b c = go (ltZ b a) refl
   where

@@ -135,7 +135,7 @@ scanned-met {r} {k} {start} {stop} {l} s h g f =
     total : (start l : ℕ) → start ≤ l → start + (l - start) ≡ l
     total start l h = omega arith
 
--- ---- the loop over edges of a ring: f, a test of an edge, is met by none from `start` to before l. Of the edges that are no neighbours of edge k it's the test with edge k
+-- ---- a loop over edges of a ring: none from `start` to before l meets f, a test of one edge (here the test with edge k, over the edges that are no neighbours of it)
 pub record Met-none (f : Edge → Bool) (r : List Corner) (start stop l : ℕ) : Type 0 where
   pub low : start ≤ l
   pub high : l ≤ stop

@@ -1,0 +1,5 @@
+-- What is proved of the definitions; not needed to read the contracts.
+--   Meeting    a test of each edge of a ring, and edges of two rings that meet
+--   Placing    where the first corner of a ring lies
+pub mod Meeting
+pub mod Placing

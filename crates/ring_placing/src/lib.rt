@@ -1,0 +1,108 @@
+// How two rings lie to one another: whether they meet, and whether one lies inside the other. Where no edges meet, one corner tells of all of its ring.
+ghost use mathlib.Core.Path.{_≡_};
+ghost use mathlib.Core.Bool.{_||_};
+ghost use Prim.Native.Nat.{_-_};
+ghost use lib.ListN.{length};
+ghost use Rattle.rules.specs.Placing.{rings-meet, first-outside, entangled};
+ghost use Rattle.ring_corners.specs.Corners.{corner, pairs, Accepted};
+ghost use Rattle.ring_boxes.specs.Boxes.{Spans, Boxed};
+use ring_corners::corners;
+use ring_pairs::search;
+use ring_turning::turning;
+
+mod edge;
+
+// Whether an edge of one ring shares a point with an edge of another, all of whose corners lie in the box from low to high. An edge of the first whose box is away
+// from that one meets none, and most are passed by the box of their run; the last edge, which is in no run, is tested beside the loop.
+fn meet_in_box(
+    first: &[i64],
+    lows: &[i64],
+    highs: &[i64],
+    second: &[i64],
+    low_x: i64,
+    high_x: i64,
+    low_y: i64,
+    high_y: i64,
+) -> bool
+    requires { ⌜ Accepted (now first) × Accepted (now second) × Boxed (pairs (now first)) (pairs (now lows)) (pairs (now highs)) × Spans (pairs (now second)) 0 (length (pairs (now second)) - 1) (corner «low_x» «low_y») (corner «high_x» «high_y») ⌝ }
+    ensures { λ r. ⌜ r ≡ rings-meet (pairs (now (first .entry))) (pairs (now (second .entry))) ⌝ }
+{
+    let last = first.len() / 2 - 1;
+    let mut k = 0;
+    while k < last {
+        k = search::next_near(first, lows, highs, low_x, high_x, low_y, high_y, k, last);
+        if k < last {
+            if edge::meets_ring(first, k, k + 1, second) {
+                return true;
+            }
+            k += 1;
+        }
+    }
+    edge::meets_ring(first, last, 0, second)
+}
+
+// Whether an edge of one ring shares a point with an edge of another. `lows` and `highs` have the boxes of the first ring's runs of edges, as ring_boxes fills them,
+// or are empty.
+pub fn meet(first: &[i64], lows: &[i64], highs: &[i64], second: &[i64]) -> bool
+    requires { ⌜ Accepted (now first) × Accepted (now second) × Boxed (pairs (now first)) (pairs (now lows)) (pairs (now highs)) ⌝ }
+    ensures { λ r. ⌜ r ≡ rings-meet (pairs (now (first .entry))) (pairs (now (second .entry))) ⌝ }
+{
+    let last = second.len() / 2 - 1;
+    let around = ring_boxes::box_of(second, 0, last);
+    meet_in_box(
+        first,
+        lows,
+        highs,
+        second,
+        around.low_x,
+        around.high_x,
+        around.low_y,
+        around.high_y,
+    )
+}
+
+// Whether the first corner of a ring is outside another ring: its turning number there is 0. Of either sign it is inside, whichever way that ring runs.
+fn outside(outer: &[i64], ring: &[i64]) -> bool
+    requires { ⌜ Accepted (now outer) × Accepted (now ring) ⌝ }
+    ensures { λ r. ⌜ r ≡ first-outside (pairs (now (outer .entry))) (pairs (now (ring .entry))) ⌝ }
+{
+    let x = corners::x_at(ring, 0);
+    let y = corners::y_at(ring, 0);
+    let turned = turning::number(outer, x, y);
+    if 0 < turned {
+        return false;
+    }
+    if turned < 0 {
+        return false;
+    }
+    true
+}
+
+// Whether a ring is not strictly inside the outer one: the rings meet, or its first corner is outside.
+pub fn not_inside(outer: &[i64], lows: &[i64], highs: &[i64], ring: &[i64]) -> bool
+    requires { ⌜ Accepted (now outer) × Accepted (now ring) × Boxed (pairs (now outer)) (pairs (now lows)) (pairs (now highs)) ⌝ }
+    ensures { λ r. ⌜ r ≡ (rings-meet (pairs (now (outer .entry))) (pairs (now (ring .entry))) || first-outside (pairs (now (outer .entry))) (pairs (now (ring .entry)))) ⌝ }
+{
+    if meet(outer, lows, highs, ring) {
+        return true;
+    }
+    outside(outer, ring)
+}
+
+// Whether two inner rings meet, or one lies inside the other.
+pub fn entangled(first: &[i64], second: &[i64]) -> bool
+    requires { ⌜ Accepted (now first) × Accepted (now second) ⌝ }
+    ensures { λ r. ⌜ r ≡ entangled (pairs (now (first .entry))) (pairs (now (second .entry))) ⌝ }
+{
+    let none = &first[0..0];
+    if meet(first, none, none, second) {
+        return true;
+    }
+    if outside(first, second) {
+        if outside(second, first) {
+            return false;
+        }
+        return true;
+    }
+    true
+}
