@@ -3,11 +3,15 @@
 --   Inner      the checks of an inner ring's numbers
 --   Calls      6 before all else, and the calls of the rings
 --   Placed     the rings of a field, one more at a time
+--   Joining    one inner ring more, by the crossing test and by where it lies
 --   Accepting  what the loop that accepts them keeps
+--   Tangled    what the loop that holds a ring against the inner ones keeps
 --   Walks      the walk over the rings gives the rules' answer
 pub mod Cut
 pub mod Inner
 pub mod Calls
 pub mod Placed
+pub mod Joining
 pub mod Accepting
+pub mod Tangled
 pub mod Walks

@@ -22,6 +22,10 @@ one-more rings numbers = do
   r ← inner-checks (length rings - 1) numbers
   placed (as-field rings) r
 
+-- passed, or the refusal
+unfoldable pub passed-one : List (List ℤ) → List ℤ → Answer Passed
+passed-one rings numbers = one-more rings numbers >> answered passed
+
 -- all that are left
 unfoldable pub the-rest : List (List ℤ) → List (List ℤ) → Answer Passed
 the-rest rings rest = do

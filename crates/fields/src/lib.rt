@@ -7,6 +7,7 @@ ghost use Rattle.ring_corners.specs.Corners.{corner};
 ghost use Rattle.fields.specs.Answers.{field-nozzle-paper};
 
 mod counts;
+mod placing;
 mod standing;
 
 // Accepted; or a crossed ring, with its number, its first pair of edges and the pairs looked at; or the number of a refusal.

@@ -46,10 +46,10 @@ stop-crossed (refused m) rest pair e = e
 stop-crossed (crossed-at other) rest pair e = e
 
 -- the numbers of ring k
-abbrev ring : List ℕ → List ℤ → ℕ → ℕ → List ℤ
+abbrev pub ring : List ℕ → List ℤ → ℕ → ℕ → List ℤ
 ring counts numbers at k = take (2 * getD counts k 0) (drop at numbers)
 
-ring-is : (counts : List ℕ) (numbers : List ℤ) (k : ℕ) → k < length counts → getD (cut counts numbers) k [] ≡ ring counts numbers (2 * summed (take k counts)) k
+pub ring-is : (counts : List ℕ) (numbers : List ℤ) (k : ℕ) → k < length counts → getD (cut counts numbers) k [] ≡ ring counts numbers (2 * summed (take k counts)) k
 ring-is counts numbers k h =
     let e = length-cut counts numbers in
     ap (λ (l : List (List ℤ)). getD l 0 []) (sym (drop-cons (cut counts numbers) k [] (omega arith)) ∙ cut-at counts numbers k h)

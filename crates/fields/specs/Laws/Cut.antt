@@ -2,7 +2,7 @@
 use mathlib.Core.Path.{_≡_, refl, sym, _∙_, ap}
 use mathlib.Core.List.{List, [], _∷_}
 use mathlib.Core.Bool.{true, not}
-use Prim.Native.Nat.{ℕ, zero, suc, _+_, _*_, _/_, _<_, _≤_}
+use Prim.Native.Nat.{ℕ, zero, suc, _+_, _*_, _-_, _/_, _<_, _≤_}
 use native.Mathlib.Omega.{arith}
 use native.Mathlib.Decide.{decLt}
 use lib.Dec.{eqb, ltb}
@@ -49,6 +49,13 @@ left-over counts k left numbers e h =
       | yes g ↦ lt-ltb 0 left g ∙ sym (ap not (ne-eqb (2 * summed counts) numbers (λ f. omega arith)))
       | no g ↦ le-ltb 0 left (omega arith) ∙ sym (ap not (eq-eqb (2 * summed counts) numbers (omega arith)))
     ]
+
+-- ---- a part from a start to an end
+pub less-none : (n : ℕ) → n - 0 ≡ n
+less-none n = omega arith
+
+pub less-start : (a n : ℕ) → (a + n) - a ≡ n
+less-start a n = omega arith
 
 -- ---- where ring k's numbers start
 pub cut-at : (counts : List ℕ) (numbers : List ℤ) (k : ℕ) → k < length counts

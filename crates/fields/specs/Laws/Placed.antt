@@ -52,7 +52,7 @@ more-field (o ∷ rest) (suc k) h g = ap (λ (l : List (List Corner)). record { 
     go (r ∷ rest) zero h = refl
     go (r ∷ rest) (suc k) h = ap (λ (l : List (List Corner)). pairs r ∷ l) (go rest k (omega arith))
 
-inner-rings-of : (rings : List (List ℤ)) → length (as-field rings .inner-rings) ≡ length rings - 1
+pub inner-rings-of : (rings : List (List ℤ)) → length (as-field rings .inner-rings) ≡ length rings - 1
 unfolding as-field
 inner-rings-of [] = refl
 inner-rings-of (o ∷ rest) = go rest ∙ less (length rest)

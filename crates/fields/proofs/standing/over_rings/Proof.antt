@@ -13,7 +13,7 @@ use Rattle.rings.specs.Answers.{nozzle-paper, position-answer}
 use Rattle.ring_corners.specs.Laws.Signed.{raw-is}
 use Rattle.fields.specs.Walks.{rings-position, inner-position, both-answers}
 use Rattle.ring_corners.specs.Corners.{corner}
-use Rattle.fields.specs.Laws.Cut.{summed-more, summed-most}
+use Rattle.fields.specs.Laws.Cut.{summed-more, summed-most, less-none, less-start}
 use Rattle.fields.specs.Laws.Walks.{Going, going-start, going-end, going-many, going-on, inside}
 use borrow.Author.Needs.{needs}
 use Rattle.fields.proofs.standing.over_rings.Statement.{statement}
@@ -32,12 +32,6 @@ first-inside st =
     let t = summed-most (st .args .counts .now) 1 in
     let e = st .pre .1 in
     omega arith
-
-less-none : (n : ℕ) → n - 0 ≡ n
-less-none n = omega arith
-
-less-start : (a n : ℕ) → (a + n) - a ≡ n
-less-start a n = omega arith
 
 shared-slice-read-at : tie.Need-shared-slice-read-at Inv-loop μ-loop
 shared-slice-read-at c = search needs
