@@ -41,7 +41,13 @@ fn misplaced(counts: &[u32], corners: &[i64], lows: &[i64], highs: &[i64], ring:
 }
 
 // One inner ring more: 16, its own 6, 7, 8 and 9, and then 15.
-fn one_more(counts: &[u32], corners: &[i64], lows: &[i64], highs: &[i64], ring: &[i64]) -> FieldAnswer
+fn one_more(
+    counts: &[u32],
+    corners: &[i64],
+    lows: &[i64],
+    highs: &[i64],
+    ring: &[i64],
+) -> FieldAnswer
     requires { ⌜ Checked (now counts) (now corners) × Outer-boxed (now counts) (now corners) (now lows) (now highs) ⌝ }
     ensures { λ r. ⌜ field-paper r ≡ passed-one (cut (now (counts .entry)) (now (corners .entry))) (now (ring .entry)) ⌝ }
 {
@@ -74,7 +80,13 @@ fn accept_each(counts: &[u32], corners: &[i64], lows: &[i64], highs: &[i64]) -> 
     let mut k = 1;
     while k < counts.len() {
         let end = at + 2 * (counts[k] as usize);
-        let said = one_more(&counts[0..k], &corners[0..at], lows, highs, &corners[at..end]);
+        let said = one_more(
+            &counts[0..k],
+            &corners[0..at],
+            lows,
+            highs,
+            &corners[at..end],
+        );
         match said {
             FieldAnswer::Refused(number) => {
                 return FieldAnswer::Refused(number);

@@ -26,7 +26,7 @@ abbrev of-ring : ℕ → CrossedPair → CrossedPair
 of-ring k pair = record { ring = k; low = pair .low; high = pair .high; looked-at = pair .looked-at }
 
 -- the crossing test by itself refuses nothing
-never-refused : (r : List Corner) (n : ℕ) → refused n ≡ not-crossed r → ⊥
+pub never-refused : (r : List Corner) (n : ℕ) → refused n ≡ not-crossed r → ⊥
 unfolding not-crossed
 never-refused r n = go (crossed r)
   where

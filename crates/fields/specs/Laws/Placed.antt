@@ -16,6 +16,7 @@ use Rattle.rules.specs.RingAnswers.{ring-checks, not-crossed}
 use Rattle.rules.specs.Fields.{Field}
 use Rattle.rules.specs.Placing.{misplaced}
 use Rattle.rules.specs.FieldAnswers.{alone, with-ring, inner-checks, placed, summed, cut, outer-accepted, inner-accepted, rings-accepted, inner-read, rings-read}
+use Rattle.rules.specs.Laws.Fields.{placed-is}
 use Rattle.ring_corners.specs.Corners.{pairs, Accepted}
 use Rattle.ring_checks.specs.Laws.Accept.{judgement}
 use Rattle.fields.specs.Placed.{as-field, one-more, the-rest}
@@ -94,24 +95,13 @@ ring-passed before numbers r e =
           ]
     ]
 
--- and that are placed well
-placed-passed : (f : Field) (r : List Corner) (g : Field) → placed f r ≡ answered g → g ≡ with-ring f r
-unfolding placed
-placed-passed f r g e = go (in-ring (suc (length (f .inner-rings))) (not-crossed r)) (misplaced f r) e
-  where
-    go : (a : Answer ℕ) (b : Bool) → (a >> (badly-placed if b >> answered (with-ring f r))) ≡ answered g → g ≡ with-ring f r
-    go (answered n) false e = cc e
-    go (answered n) true e = absurd (clash e)
-    go (refused n) b e = absurd (clash e)
-    go (crossed-at pair) b e = absurd (let z : _≡_ {A = ℕ} 0 1 = cc e in omega arith)
-
 pub one-passed : (rings : List (List ℤ)) (numbers : List ℤ) → (one-more rings numbers >> answered passed) ≡ answered passed
     → (one-more rings numbers ≡ answered (with-ring (as-field rings) (pairs numbers))) × Accepted numbers
 unfolding one-more
 one-passed rings numbers e = go (inner-checks (length rings - 1) numbers) refl e
   where
     last : (r : List Corner) (a : Answer Field) → placed (as-field rings) r ≡ a → (a >> answered passed) ≡ answered passed → placed (as-field rings) r ≡ answered (with-ring (as-field rings) r)
-    last r (answered g) e h = e ∙ ap answered (placed-passed (as-field rings) r g e)
+    last r (answered g) e h = e ∙ ap answered (placed-is (as-field rings) r g e)
     last r (refused n) e h = absurd (clash h)
     last r (crossed-at pair) e h = absurd (let z : _≡_ {A = ℕ} 0 1 = cc h in omega arith)
 

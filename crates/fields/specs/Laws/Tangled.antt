@@ -36,6 +36,7 @@ module _ (counts : List ℕ) (numbers : List ℤ) (s : List Corner) (c : Checked
     most = c .some;
     answer = ap (λ (l : List (List Corner)). entangled-any l s) (inner-of (cut counts numbers) (let n = length-cut counts numbers in let h = c .some in omega arith));
   }
+
   module _ {at k : ℕ} (g : Tangling counts numbers s at k) where
     pub tangling-end : length counts ≤ k → false ≡ entangled-any (as-field (cut counts numbers) .inner-rings) s
     unfolding entangled-any

@@ -1,11 +1,18 @@
--- The nozzle rule over a field's rings, ring by ring: a field of one ring answers as the ring does, and one inner ring more is looked at beside those before it. Assumes nothing.
+-- The nozzle rule over a field's rings, ring by ring: a field of one ring answers as the ring does, and one inner ring more is looked at beside those before it. And a field that
+-- is accepted is read as it is accepted. Assumes nothing.
 use mathlib.Core.Path.{_≡_, refl, sym, _∙_, ap, ap₂}
 use mathlib.Core.Bool.{Bool, true, false, not, _||_}
 use mathlib.Core.List.{List, [], _∷_, _++_}
+use Prim.Native.Nat.{ℕ, suc}
+use native.Mathlib.Omega.{arith}
+use lib.IntN.{ℤ}
+use lib.ListN.{length}
+use Rattle.rules.specs.Refusals.{Answer, answered, refused, CrossedPair, crossed-at, passed, _>>=_, _>>_, _if_, in-ring, corner-count, badly-placed}
 use Rattle.rules.specs.Rings.{Corner, edges, turning-number, border, isZero}
-use Rattle.rules.specs.RingAnswers.{Nozzle, open-nozzle, border-nozzle, shut-nozzle, nozzle}
+use Rattle.rules.specs.RingAnswers.{ring-checks, not-crossed, Nozzle, open-nozzle, border-nozzle, shut-nozzle, nozzle}
 use Rattle.rules.specs.Fields.{Field, on-any, inside-any, field-nozzle}
-use Rattle.rules.specs.FieldAnswers.{alone, with-ring}
+use Rattle.rules.specs.Placing.{misplaced}
+use Rattle.rules.specs.FieldAnswers.{alone, with-ring, inner-checks, placed, outer-accepted, inner-accepted, rings-accepted, inner-read, rings-read, uneven, cut, field-accepted, field-read, accept-answer, field-nozzle-answer, field-position-answer}
 
 -- on an edge or not, and shut or not
 told : Bool → Bool → Nozzle
@@ -62,3 +69,83 @@ unfolding field-nozzle nozzle told
 more-nozzle f r p =
     ap₂ (λ b i. told b (i || isZero (turning-number (f .outer-ring) p))) (on-more (f .outer-ring ∷ f .inner-rings) r p) (inside-more (f .inner-rings) r p)
     ∙ both (on-any (f .outer-ring ∷ f .inner-rings) p) (border (edges r) p) (inside-any (f .inner-rings) p) (isZero (turning-number r p)) (isZero (turning-number (f .outer-ring) p))
+
+-- ---- a field that is accepted is read as it is accepted: so where it was accepted before, nothing need be judged again
+pub placed-is : (f : Field) (r : List Corner) (g : Field) → placed f r ≡ answered g → g ≡ with-ring f r
+unfolding placed
+placed-is f r g = go (in-ring (suc (length (f .inner-rings))) (not-crossed r)) (misplaced f r)
+  where
+    go : (a : Answer ℕ) (b : Bool) → (a >> (badly-placed if b >> answered (with-ring f r))) ≡ answered g → g ≡ with-ring f r
+    go (answered n) false e = cc e
+    go (answered n) true e = absurd (let z : _≡_ {A = ℕ} 0 1 = cc e in omega arith)
+    go (refused n) b e = absurd (let z : _≡_ {A = ℕ} 0 1 = cc e in omega arith)
+    go (crossed-at pair) b e = absurd (let z : _≡_ {A = ℕ} 0 1 = cc e in omega arith)
+
+inner-one : (f : Field) (a : Answer (List Corner)) (rest : List (List ℤ)) (g : Field) → ((r : List Corner) → inner-accepted (with-ring f r) rest ≡ answered g → inner-read (with-ring f r) rest ≡ answered g)
+    → (a >>= λ r. placed f r >>= λ h. inner-accepted h rest) ≡ answered g → (a >>= λ r. inner-read (with-ring f r) rest) ≡ answered g
+inner-one f (answered r) rest g k = go (placed f r) refl
+  where
+    go : (b : Answer Field) → placed f r ≡ b → (b >>= λ h. inner-accepted h rest) ≡ answered g → inner-read (with-ring f r) rest ≡ answered g
+    go (answered h) x e = k r (ap (λ (h : Field). inner-accepted h rest) (sym (placed-is f r h x)) ∙ e)
+    go (refused n) x e = absurd (let z : _≡_ {A = ℕ} 0 1 = cc e in omega arith)
+    go (crossed-at pair) x e = absurd (let z : _≡_ {A = ℕ} 0 1 = cc e in omega arith)
+inner-one f (refused n) rest g k = λ e. e
+inner-one f (crossed-at pair) rest g k = λ e. e
+
+inner-as-read : (f : Field) (rest : List (List ℤ)) (g : Field) → inner-accepted f rest ≡ answered g → inner-read f rest ≡ answered g
+unfolding inner-accepted inner-read
+inner-as-read f [] g e = e
+inner-as-read f (numbers ∷ rest) g e = inner-one f (inner-checks (length (f .inner-rings)) numbers) rest g (λ r. inner-as-read (with-ring f r) rest g) e
+
+rings-as-read : (rings : List (List ℤ)) (g : Field) → rings-accepted rings ≡ answered g → rings-read rings ≡ answered g
+unfolding rings-accepted outer-accepted rings-read
+rings-as-read [] g e = e
+rings-as-read (numbers ∷ rest) g e = go (ring-checks numbers) e
+  where
+    clean : (r : List Corner) (a : Answer ℕ) → ((a >> answered (alone r)) >>= λ f. inner-accepted f rest) ≡ answered g → inner-accepted (alone r) rest ≡ answered g
+    clean r (answered n) e = e
+    clean r (refused n) e = absurd (let z : _≡_ {A = ℕ} 0 1 = cc e in omega arith)
+    clean r (crossed-at pair) e = absurd (let z : _≡_ {A = ℕ} 0 1 = cc e in omega arith)
+
+    go : (a : Answer (List Corner)) → ((a >>= λ r. not-crossed r >> answered (alone r)) >>= λ f. inner-accepted f rest) ≡ answered g → (a >>= λ r. inner-read (alone r) rest) ≡ answered g
+    go (answered r) e = inner-as-read (alone r) rest g (clean r (not-crossed r) e)
+    go (refused n) e = e
+    go (crossed-at pair) e = e
+
+pub field-as-read : (counts : List ℕ) (numbers : List ℤ) (g : Field) → field-accepted counts numbers ≡ answered g → field-read counts numbers ≡ answered g
+unfolding field-accepted field-read
+field-as-read counts numbers g = go (uneven counts numbers)
+  where
+    go : (b : Bool) → (corner-count if b >> rings-accepted (cut counts numbers)) ≡ answered g → (corner-count if b >> rings-read (cut counts numbers)) ≡ answered g
+    go true e = e
+    go false e = rings-as-read (cut counts numbers) g e
+
+-- the nozzle's answer: that of the position where the field is accepted, and otherwise its refusal
+module _ (counts : List ℕ) (numbers : List ℤ) (p : Corner) where
+  pub position-is-field-nozzle : accept-answer counts numbers ≡ answered passed → field-position-answer counts numbers p ≡ field-nozzle-answer counts numbers p
+  unfolding accept-answer field-position-answer field-nozzle-answer
+  position-is-field-nozzle = go (field-accepted counts numbers) refl
+    where
+      go : (a : Answer Field) → field-accepted counts numbers ≡ a → (a >> answered passed) ≡ answered passed
+          → (field-read counts numbers >>= λ f. answered (field-nozzle f p)) ≡ (a >>= λ f. answered (field-nozzle f p))
+      go (answered g) x e = ap (λ (a : Answer Field). a >>= λ f. answered (field-nozzle f p)) (field-as-read counts numbers g x)
+      go (refused n) x e = absurd (let z : _≡_ {A = ℕ} 0 1 = cc e in omega arith)
+      go (crossed-at pair) x e = absurd (let z : _≡_ {A = ℕ} 0 1 = cc e in omega arith)
+
+  pub nozzle-refused : (n : ℕ) → accept-answer counts numbers ≡ refused n → field-nozzle-answer counts numbers p ≡ refused n
+  unfolding accept-answer field-nozzle-answer
+  nozzle-refused n = go (field-accepted counts numbers)
+    where
+      go : (a : Answer Field) → (a >> answered passed) ≡ refused n → (a >>= λ f. answered (field-nozzle f p)) ≡ refused n
+      go (answered g) e = absurd (let z : _≡_ {A = ℕ} 0 1 = cc e in omega arith)
+      go (refused m) e = cc e
+      go (crossed-at pair) e = absurd (let z : _≡_ {A = ℕ} 0 1 = cc e in omega arith)
+
+  pub nozzle-crossed : (pair : CrossedPair) → accept-answer counts numbers ≡ crossed-at pair → field-nozzle-answer counts numbers p ≡ crossed-at pair
+  unfolding accept-answer field-nozzle-answer
+  nozzle-crossed pair = go (field-accepted counts numbers)
+    where
+      go : (a : Answer Field) → (a >> answered passed) ≡ crossed-at pair → (a >>= λ f. answered (field-nozzle f p)) ≡ crossed-at pair
+      go (answered g) e = absurd (let z : _≡_ {A = ℕ} 0 1 = cc e in omega arith)
+      go (refused m) e = absurd (let z : _≡_ {A = ℕ} 0 1 = cc e in omega arith)
+      go (crossed-at other) e = cc e

@@ -132,12 +132,13 @@ one-more-requires c κs =
     let a = c .before .before .before .before .before in
     let b = a .before .before .before in
     let n = b .args .counts .now in
-    let l = b .args .corners .now in
-    (subst (λ (m : ℕ). Checked (take m n) (take (a .loop .at - 0) l)) (sym (less-none (a .loop .k)))
-    (subst (λ (m : ℕ). Checked (take (a .loop .k) n) (take m l)) (sym (less-none (a .loop .at))) (first-checked n l (a .loop .inv) (b .pre .1))),
-    subst (λ (m : ℕ). Outer-boxed (take m n) (take (a .loop .at - 0) l) (b .args .lows .now) (b .args .highs .now)) (sym (less-none (a .loop .k)))
-    (subst (λ (m : ℕ). Outer-boxed (take (a .loop .k) n) (take m l) (b .args .lows .now) (b .args .highs .now)) (sym (less-none (a .loop .at)))
-    (first-boxed n l (a .loop .inv) (b .pre .1) (b .args .lows .now) (b .args .highs .now) (b .pre .3))))
+    let l = b .args .corners .now in (
+      subst (λ (m : ℕ). Checked (take m n) (take (a .loop .at - 0) l)) (sym (less-none (a .loop .k)))
+          (subst (λ (m : ℕ). Checked (take (a .loop .k) n) (take m l)) (sym (less-none (a .loop .at))) (first-checked n l (a .loop .inv) (b .pre .1))),
+      subst (λ (m : ℕ). Outer-boxed (take m n) (take (a .loop .at - 0) l) (b .args .lows .now) (b .args .highs .now)) (sym (less-none (a .loop .k)))
+          (subst (λ (m : ℕ). Outer-boxed (take (a .loop .k) n) (take m l) (b .args .lows .now) (b .args .highs .now)) (sym (less-none (a .loop .at)))
+          (first-boxed n l (a .loop .inv) (b .pre .1) (b .args .lows .now) (b .args .highs .now) (b .pre .3))),
+    )
 
 enum-known-said : tie.Need-enum-known-said Inv-loop μ-loop
 enum-known-said c = search needs

@@ -88,9 +88,11 @@ entangled-requires c κs =
     let at = c .before .before .before in
     let st = at .before .before .before in
     let counts = st .args .counts .now in
-    let corners = st .args .corners .now in
-    (subst (λ (m : ℕ). Accepted (take m (drop (at .loop .at) corners))) (sym (less-start (at .loop .at) (2 * getD counts (at .loop .k) 0)))
-    (tangling-accepted counts corners (pairs (st .args .ring .now)) (st .pre .0) (at .loop .inv) (c .before .before .loop-test .taken)), st .pre .1)
+    let corners = st .args .corners .now in (
+      subst (λ (m : ℕ). Accepted (take m (drop (at .loop .at) corners))) (sym (less-start (at .loop .at) (2 * getD counts (at .loop .k) 0)))
+          (tangling-accepted counts corners (pairs (st .args .ring .now)) (st .pre .0) (at .loop .inv) (c .before .before .loop-test .taken)),
+      st .pre .1,
+    )
 
 returns : tie.Need-returns Inv-loop μ-loop
 returns c =

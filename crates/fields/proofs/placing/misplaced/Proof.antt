@@ -54,9 +54,11 @@ part-not-inside-end c = first-inside (c .before .before)
 not-inside-requires : tie.Need-not-inside-requires
 not-inside-requires c κs =
     let t = c .before .before .before in
-    let e = first-ring (counts t) (corners t) (t .pre .0 .some) ∙ sym (part t) in
-    (subst Accepted e (t .pre .0 .good 0 (t .pre .0 .some)), t .pre .2,
-    subst (λ (l : List ℤ). Boxed (pairs l) (pairs (t .args .lows .now)) (pairs (t .args .highs .now))) e (t .pre .1))
+    let e = first-ring (counts t) (corners t) (t .pre .0 .some) ∙ sym (part t) in (
+      subst Accepted e (t .pre .0 .good 0 (t .pre .0 .some)),
+      t .pre .2,
+      subst (λ (l : List ℤ). Boxed (pairs l) (pairs (t .args .lows .now)) (pairs (t .args .highs .now))) e (t .pre .1),
+    )
 
 returns : tie.Need-returns
 returns c =

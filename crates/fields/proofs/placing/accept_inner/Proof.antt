@@ -1,0 +1,95 @@
+-- The boxes are those of the outer ring. Assumes nothing.
+use mathlib.Core.Path.{_≡_, sym, _∙_, ap, subst}
+use mathlib.Core.List.{List}
+use Prim.Native.Nat.{ℕ, _+_, _*_, _-_, _/_, _≤_}
+use native.Mathlib.Omega.{arith}
+use lib.IntN.{ℤ}
+use lib.ListN.{length, take, getD}
+use lib.Seq.{length-take-le}
+use Rattle.ring_corners.specs.Corners.{pairs, Accepted}
+use Rattle.ring_boxes.specs.Boxes.{Boxed}
+use Rattle.fields.specs.Laws.Cut.{summed-more, summed-most, less-none}
+use Rattle.fields.specs.Laws.Tangled.{first-ring}
+use borrow.Author.Needs.{needs}
+use Rattle.fields.proofs.placing.accept_inner.Statement.{statement}
+use Rattle.fields.proofs.placing.accept_inner.Tie as tie
+
+-- the outer ring's numbers
+module _ (st : tie.Start) where
+  abbrev counts : List ℕ
+  counts = st .args .counts .now
+
+  abbrev corners : List ℤ
+  corners = st .args .corners .now
+
+  part : take (2 * getD counts 0 0 - 0) corners ≡ take (2 * getD counts 0 0) corners
+  part = ap (λ (m : ℕ). take m corners) (less-none (2 * getD counts 0 0))
+
+  first-inside : 2 * getD counts 0 0 ≤ length corners
+  first-inside = let m = summed-more counts 0 (st .pre .0) in let t = summed-most counts 1 in let e = st .pre .1 in omega arith
+
+  many : length (pairs (take (2 * getD counts 0 0) corners)) ≡ getD counts 0 0
+  many = let e = st .pre .2 .even in let l = length-take-le (2 * getD counts 0 0) corners first-inside in omega arith
+
+shared-slice-read-end : tie.Need-shared-slice-read-end
+shared-slice-read-end c = search needs
+
+cast-end : tie.Need-cast-end
+cast-end c = omega (arith, c .shared-slice-known2 .given 0)
+
+mul-end : tie.Need-mul-end
+mul-end c = omega (arith, c .shared-slice-known2 .given 0)
+
+sub-fill : tie.Need-sub-fill
+sub-fill c = search needs
+
+part-fill-start : tie.Need-part-fill-start
+part-fill-start c = search needs
+
+part-fill-end : tie.Need-part-fill-end
+part-fill-end c = first-inside (c .before .before)
+
+sub-fill-2 : tie.Need-sub-fill-2
+sub-fill-2 c = let t = c .before .before .before in let n = many t in let h = t .pre .2 .at-least in omega arith
+
+fill-requires : tie.Need-fill-requires
+fill-requires c κs =
+    let t = c .before .before .before .before .before in
+    let n = many t in
+    let h = t .pre .2 .at-least in
+    (subst Accepted (sym (part t)) (t .pre .2), subst (λ (l : List ℤ). (2 * getD (counts t) 0 0 / 2 - 1) + 1 ≡ length (pairs l)) (sym (part t)) (omega arith), omega arith, omega arith)
+
+slice-aggregate-accept-each : tie.Need-slice-aggregate-accept-each
+slice-aggregate-accept-each c = search needs
+
+slice-aggregate-accept-each-2 : tie.Need-slice-aggregate-accept-each-2
+slice-aggregate-accept-each-2 c = search needs
+
+accept-each-requires : tie.Need-accept-each-requires
+accept-each-requires c κs =
+    let t = c .before .before .before .before .before .before .before .before in (
+      t .pre .0,
+      t .pre .1,
+      t .pre .2,
+      subst (λ (l : List ℤ). Boxed (pairs l) (pairs (c .before .before .fill .last .1 .1 .0)) (pairs (c .before .before .fill .last .1 .1 .1 .0))) (part t ∙ sym (first-ring (counts t) (corners t) (t .pre .0))) (c .before .before .fill .ensures .0),
+    )
+
+returns : tie.Need-returns
+returns c = search needs
+
+pub accept-inner-spec : {M : Type 1} → statement M
+accept-inner-spec =
+    tie.close
+    (tie.spec
+    shared-slice-read-end
+    cast-end
+    mul-end
+    sub-fill
+    part-fill-start
+    part-fill-end
+    sub-fill-2
+    fill-requires
+    slice-aggregate-accept-each
+    slice-aggregate-accept-each-2
+    accept-each-requires
+    returns)
