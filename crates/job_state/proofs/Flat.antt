@@ -16,13 +16,13 @@ use mir.Facts.{toZ-ofZ}
 use Rattle.rules.specs.Rings.{Corner, area2}
 use Rattle.rules.specs.Points.{above}
 use Rattle.rules.specs.Refusals.{Answer, answered, refused, crossed-at, _>>=_, _>>_, _if_, corner-count, span-too-large}
-use Rattle.rules.specs.RingAnswers.{corners, count-bad, number-bad, corner-bad, any-bad, span-bad, not-crossed, ring-checks, area-answer, crossing-answer, Nozzle, nozzle}
+use Rattle.rules.specs.RingAnswers.{corners, count-bad, number-bad, corner-bad, any-bad, span-bad, not-crossed, ring-checks, area-answer, crossing-answer, nozzle}
 use Rattle.rings.specs.declared.CrossingAnswer as crossings
 use Rattle.rings.specs.declared.CrossingAnswer.the-variants as crossing-case
 use Rattle.rings.specs.Answers.{crossing-paper, position-answer}
 use Rattle.job_state.specs.declared.ring.Judged as judgement
 use Rattle.job_state.specs.declared.state.Corner as code
-use Rattle.job_state.specs.Gathered.{chosen, within, at, corner-of, ring-of, flat, judged, judged-flat, judged-paper, located}
+use Rattle.job_state.specs.Gathered.{chosen, within, corner-of, ring-of, flat, judged, judged-flat, judged-paper, located}
 
 -- ---- a number within the limits
 module _ (z : ℤ) (f : SFits w64 z) where
@@ -158,11 +158,6 @@ module _ (r : List Corner) (good : any-bad r ≡ false) where
       go true b = refl
       go false true = refl
       go false false = refl
-
--- a call's answer on the flat list is the ring's
-pub located-back : {a : Answer Nozzle} (numbers : List ℤ) (r : List Corner) (x y : ℤ) → numbers ≡ flat r → any-bad r ≡ false → SFits w64 x → SFits w64 y
-    → a ≡ position-answer numbers (at (toZ w64 (ofZ w64 x)) (toZ w64 (ofZ w64 y))) → a ≡ located r (at x y)
-located-back numbers r x y e good f g h = h ∙ rw (e, toZ-ofZ f, toZ-ofZ g) (located-by-flat r good (at x y))
 
 -- a part of the array from its start on
 pub part : (n : ℕ) (l : List ℤ) {r : List ℤ} → take n l ≡ r → take (n - 0) l ≡ r

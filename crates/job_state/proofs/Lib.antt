@@ -1,4 +1,5 @@
--- What the proofs share: of the ring calls (Flat), and of the state's methods (Limits, Steps).
+-- What the proofs share: of the ring calls (Flat), of what a record makes of a state (Limits, Steps), and of the answers in place (InPlace).
 pub mod Flat
 pub mod Limits
 pub mod Steps
+pub mod InPlace

@@ -56,14 +56,14 @@ kept (pos n) h = rw h refl
 kept (negsuc n) h = rw (limit n ∙ h) refl
 
 -- ---- the count
-module _ (cs : List code.Corner) (n : ℕ) (long : length cs ≡ 1024) where
-  pub few : counted n ≤ 1024
-  few = go (ltb 1024 n) refl
-    where
-      go : (t : Bool) → ltb 1024 n ≡ t → chosen t 1024 n ≤ 1024
-      go true e = omega arith
-      go false e = ltb-false 1024 n e
+pub few : (n : ℕ) → counted n ≤ 1024
+few n = go (ltb 1024 n) refl
+  where
+    go : (t : Bool) → ltb 1024 n ≡ t → chosen t 1024 n ≤ 1024
+    go true e = omega arith
+    go false e = ltb-false 1024 n e
 
+module _ (cs : List code.Corner) (n : ℕ) (long : length cs ≡ 1024) where
   pub same-ring : ring-of (counted n) cs ≡ ring-of n cs
   unfolding ring-of
   same-ring = go (ltb 1024 n) refl

@@ -31,7 +31,6 @@ use Rattle.job_state.specs.declared.ring.Judged.the-variants as judged-c
 use Rattle.rings.specs.declared.NozzleAnswer as place
 use Rattle.rings.specs.declared.NozzleAnswer.the-variants as located-case
 use Rattle.rings.specs.Answers.{nozzle-paper}
-use Rattle.job_state.specs.declared.state.Corner as code
 use Rattle.job_state.specs.declared.state.Phase as phases
 use Rattle.job_state.specs.declared.state.Phase.the-variants.{Idle, Gathering, Accepted}
 use Rattle.job_state.specs.declared.state.Position as positions
@@ -53,9 +52,12 @@ pub refusing : (n : ℕ) {i : records.Record} (j : Job) {r : Taken} → r .job �
 refusing n j e f = rw (e, f) (record { says = refl; leaves = refl })
 
 -- signed arguments, read back from their bits
+pub read-back : (P : ℤ → ℤ → Type 0) (x y : ℤ) → SFits w64 x → SFits w64 y → P (toZ w64 (ofZ w64 x)) (toZ w64 (ofZ w64 y)) → P x y
+read-back P x y f g h = subst (λ (X : ℤ). P X y) (toZ-ofZ f) (subst (λ (Y : ℤ). P (toZ w64 (ofZ w64 x)) Y) (toZ-ofZ g) h)
+
 pub read-two : {j : Job} {r : Taken} (F : ℤ → ℤ → rules.Answer Step) (I : ℤ → ℤ → records.Record) (x y : ℤ) → SFits w64 x → SFits w64 y
     → Stepping (F (toZ w64 (ofZ w64 x)) (toZ w64 (ofZ w64 y))) (I (toZ w64 (ofZ w64 x)) (toZ w64 (ofZ w64 y))) j r → Stepping (F x y) (I x y) j r
-read-two F I x y f g h = rw (toZ-ofZ f, toZ-ofZ g) at h
+read-two {j} {r} F I x y f g h = read-back (λ X Y. Stepping (F X Y) (I X Y) j r) x y f g h
 
 -- a query and a point leave the job as it was, answered or refused
 query-leaves : (s : rules.Answer Step) (X Y : ℤ) (j : Job) → left s (record-case.Query X Y) j ≡ j
@@ -165,17 +167,16 @@ module _ (f : ℕ → ℤ → ℤ → rules.Answer points.Point) where
     open-query (located-case.Crossed i l looked) true c e = absurd (let z : _≡_ {A = ℕ} 0 1 = cc in omega arith)
     open-query (located-case.Crossed i l looked) false true e = absurd (let z : _≡_ {A = ℕ} 0 1 = cc in omega arith)
 
-  pub accepted-query : (j : Job) (X Y : ℤ) (l : place.NozzleAnswer) (a : answers.Answer) (n : ℕ) → j .phase ≡ Accepted → length (j .corners) ≡ 1024 → n ≡ counted (j .count)
-      → nozzle-paper l ≡ located (ring-of n (j .corners)) (at X Y) → a ≡ query-said l X Y
+  pub accepted-query : (j : Job) (X Y : ℤ) (l : place.NozzleAnswer) (a : answers.Answer) → j .phase ≡ Accepted
+      → nozzle-paper l ≡ located (ring-of (j .count) (j .corners)) (at X Y) → a ≡ query-said l X Y
       → Stepping (stepped f (view j) (record-case.Query X Y)) (record-case.Query X Y) j (record { job = j; answer = a })
   unfolding located
-  accepted-query j X Y l a n e long all h g =
-      let k = h ∙ ap (λ (n : ℕ). located (ring-of n (j .corners)) (at X Y)) all ∙ ap (λ (r : List ring.Corner). located r (at X Y)) (same-ring (j .corners) (j .count) long) in
+  accepted-query j X Y l a e h g =
       rw g
       (record {
         says =
             subst (λ (s : State). paper (query-said l X Y) s ≡ stepped f s (record-case.Query X Y)) (sym (view-at j e))
-            (open-query (ring-of (j .count) (j .corners)) X Y l (count-bad (ring-of (j .count) (j .corners))) (span-bad (ring-of (j .count) (j .corners))) k);
+            (open-query (ring-of (j .count) (j .corners)) X Y l (count-bad (ring-of (j .count) (j .corners))) (span-bad (ring-of (j .count) (j .corners))) h);
         leaves = sym (query-leaves (stepped f (view j) (record-case.Query X Y)) X Y j);
       })
 

@@ -2,12 +2,10 @@
 ghost use mathlib.Core.Path.{_≡_};
 ghost use Prim.Native.Nat.{_*_, _≤_};
 ghost use lib.ListN.{length, take};
-ghost use Rattle.job_state.specs.Gathered.{within, flat, ring-of, at, judged, judged-flat, judged-paper, located};
+ghost use Rattle.job_state.specs.Gathered.{within, flat, counted, ring-of, judged, judged-flat, judged-paper};
 ghost use Rattle.rules.specs.RingAnswers.{area-answer};
-ghost use Rattle.rings.specs.Answers.{nozzle-paper};
 use crate::state::Corner;
 use rings::CrossingAnswer;
-use rings::NozzleAnswer;
 use rings::WholeAnswer;
 
 // A number past ±10^10, which no corner has that a job took in, is read as that limit.
@@ -23,8 +21,18 @@ fn limited(z: i64) -> i64
     z
 }
 
+// A count past the array's end, which no job hands back, counts all of it.
+pub fn counted(count: usize) -> usize
+    ensures { λ r. ⌜ r ≡ counted count ⌝ }
+{
+    if 1024 < count {
+        return 1024;
+    }
+    count
+}
+
 // The first `count` corners, X and Y in turn.
-fn flatten(corners: [Corner; 1024], count: usize) -> [i64; 2048]
+pub fn flatten(corners: [Corner; 1024], count: usize) -> [i64; 2048]
     requires { ⌜ count ≤ 1024 ⌝ }
     ensures { λ r. ⌜ (length r ≡ 2048) × (take (2 * count) r ≡ flat (ring-of count corners)) ⌝ }
 {
@@ -54,16 +62,6 @@ pub fn judge(corners: [Corner; 1024], count: usize) -> Judged
     let numbers = flatten(corners, count);
     let end = 2 * count;
     judge_flat(&numbers[0..end])
-}
-
-// A point and the ring of the first `count` corners.
-pub fn locate(corners: [Corner; 1024], count: usize, x: i64, y: i64) -> NozzleAnswer
-    requires { ⌜ count ≤ 1024 ⌝ }
-    ensures { λ r. ⌜ nozzle-paper r ≡ located (ring-of count corners) (at x y) ⌝ }
-{
-    let numbers = flatten(corners, count);
-    let end = 2 * count;
-    rings::position(&numbers[0..end], x, y)
 }
 
 fn judge_flat(numbers: &[i64]) -> Judged

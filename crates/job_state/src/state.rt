@@ -1,17 +1,15 @@
 // The job's state by value, and what a record makes of it: a method takes one record and hands the state back with the answer beside it.
 // A refusal hands back the state as it was. A state that is not as last handed back answers too: States.antt says which of the rules' states it stands for.
 ghost use mathlib.Core.Path.{_≡_};
-ghost use Rattle.rules.specs.JobFile.{begun, cornered, closed, pointed};
-ghost use Rattle.rules.specs.RingAnswers.{number-bad};
+ghost use Rattle.rules.specs.JobFile.{begun, closed};
 ghost use Rattle.projection.specs.Worked.{worked-forward};
 ghost use Rattle.records.specs.declared.Record.the-variants as record-case;
-ghost use Rattle.job_state.specs.Gathered.{ring-of, counted};
-ghost use Rattle.job_state.specs.States.{Stepping, Right-stepping, new-job, view, stepped, point-said, query-said};
+ghost use Rattle.job_state.specs.Gathered.{ring-of};
+ghost use Rattle.job_state.specs.States.{Stepping, Right-stepping, new-job, view, stepped};
+use crate::in_place;
 use crate::ring;
 use crate::ring::Judged;
-use projection::ForwardAnswer;
 use records::Record;
-use rings::NozzleAnswer;
 
 pub struct Corner {
     pub x: i64,
@@ -132,34 +130,12 @@ impl Job {
         ensures { λ r. ⌜ Stepping (stepped worked-forward (view self) (record-case.Corner x y)) (record-case.Corner x y) self r ⌝ }
     {
         let phase = self.phase;
-        match phase {
-            Phase::Idle => self.out_of_place(),
-            Phase::Gathering => self.gather(x, y),
-            Phase::Accepted => self.out_of_place(),
-        }
-    }
-
-    fn gather(self, x: i64, y: i64) -> Taken
-        requires { ⌜ self .phase ≡ Phase.Gathering ⌝ }
-        ensures { λ r. ⌜ Stepping (cornered (self .code) (ring-of (self .count) (self .corners)) x y) (record-case.Corner x y) self r ⌝ }
-    {
         let count = self.count;
-        if 1024 <= count {
+        let refusal = in_place::corner_refusal(phase, count, x, y);
+        if 0 < refusal {
             return Taken {
                 job: self,
-                answer: Answer::Refused(6),
-            };
-        }
-        if outside(x) {
-            return Taken {
-                job: self,
-                answer: Answer::Refused(7),
-            };
-        }
-        if outside(y) {
-            return Taken {
-                job: self,
-                answer: Answer::Refused(7),
+                answer: Answer::Refused(refusal),
             };
         }
         let mut next = self;
@@ -189,7 +165,7 @@ impl Job {
     {
         let corners = self.corners;
         let code = self.code;
-        let count = counted(self.count);
+        let count = ring::counted(self.count);
         let judged = ring::judge(corners, count);
         match judged {
             Judged::Area(area) => Taken {
@@ -216,24 +192,13 @@ impl Job {
     fn query(self, x: i64, y: i64) -> Taken
         ensures { λ r. ⌜ Stepping (stepped worked-forward (view self) (record-case.Query x y)) (record-case.Query x y) self r ⌝ }
     {
-        let phase = self.phase;
-        match phase {
-            Phase::Idle => self.out_of_place(),
-            Phase::Gathering => self.out_of_place(),
-            Phase::Accepted => self.locate(x, y),
-        }
-    }
-
-    fn locate(self, x: i64, y: i64) -> Taken
-        requires { ⌜ self .phase ≡ Phase.Accepted ⌝ }
-        ensures { λ r. ⌜ Stepping (stepped worked-forward (view self) (record-case.Query x y)) (record-case.Query x y) self r ⌝ }
-    {
         let corners = self.corners;
-        let count = counted(self.count);
-        let located = ring::locate(corners, count, x, y);
+        let count = self.count;
+        let phase = self.phase;
+        let numbers = in_place::lay_out(corners, count);
         Taken {
             job: self,
-            answer: nozzle_answer(located, x, y),
+            answer: in_place::query_answer(phase, count, &numbers, x, y),
         }
     }
 
@@ -242,61 +207,9 @@ impl Job {
         ensures { λ r. ⌜ Stepping (stepped worked-forward (view self) (record-case.Point code b l)) (record-case.Point code b l) self r ⌝ }
     {
         let phase = self.phase;
-        match phase {
-            Phase::Idle => self.project(code, b, l),
-            Phase::Gathering => self.out_of_place(),
-            Phase::Accepted => self.project(code, b, l),
-        }
-    }
-
-    fn project(self, code: u8, b: i64, l: i64) -> Taken
-        ensures { λ r. ⌜ Stepping (pointed (view self) (worked-forward code b l)) (record-case.Point code b l) self r ⌝ }
-    {
-        let projected = projection::forward(code, b, l);
         Taken {
             job: self,
-            answer: point_answer(projected),
+            answer: in_place::point_answer(phase, code, b, l),
         }
-    }
-}
-
-// A count past the array's end, which no job hands back, counts all of it.
-fn counted(count: usize) -> usize
-    ensures { λ r. ⌜ r ≡ counted count ⌝ }
-{
-    if 1024 < count {
-        return 1024;
-    }
-    count
-}
-
-fn outside(z: i64) -> bool
-    ensures { λ r. ⌜ r ≡ number-bad z ⌝ }
-{
-    if 10000000000 < z {
-        return true;
-    }
-    z < -10000000000
-}
-
-// A ring that the checks 6 and 8 refuse is no accepted field. Crossing is not asked again.
-fn nozzle_answer(located: NozzleAnswer, x: i64, y: i64) -> Answer
-    ensures { λ r. ⌜ r ≡ query-said located x y ⌝ }
-{
-    match located {
-        NozzleAnswer::Open => Answer::Nozzle(x, y, Position::Open),
-        NozzleAnswer::Border => Answer::Nozzle(x, y, Position::Border),
-        NozzleAnswer::Shut => Answer::Nozzle(x, y, Position::Shut),
-        NozzleAnswer::Crossed(_, _, _) => Answer::Refused(13),
-        NozzleAnswer::Refused(_) => Answer::Refused(13),
-    }
-}
-
-fn point_answer(projected: ForwardAnswer) -> Answer
-    ensures { λ r. ⌜ r ≡ point-said projected ⌝ }
-{
-    match projected {
-        ForwardAnswer::Point(x, y, scale, convergence) => Answer::Point(x, y, scale, convergence),
-        ForwardAnswer::Refused(n) => Answer::Refused(n),
     }
 }

@@ -1,5 +1,6 @@
 -- 01: "Two results allowed for one input are shown equal." Jobs that stand for one of the rules' states answer a record alike, and come to one state again
--- (`takes-alike`); and of one job and one record the contract of `Job::take` allows one result, every place of the struct (`takes-one`). Assumes nothing.
+-- (`takes-alike`); and of one job and one record the contract of `Job::take` allows one result, every place of the struct (`takes-one`). So a job that stays
+-- where it lies, and is answered by in_place, comes to what `Job::take` hands back (`answers-alike`, `stores-alike`). Assumes nothing.
 use mathlib.Core.Path.{_≡_, refl, sym, ap, _∙_}
 use lib.IntN.{ℤ}
 use Prim.Native.Nat.{ℕ}
@@ -7,12 +8,16 @@ use Rattle.rules.specs.Refusals as rules
 use Rattle.rules.specs.Refusals.{answered, refused, crossed-at}
 use Rattle.rules.specs.Points as points
 use Rattle.rules.specs.JobFile.{State, Step}
+use Rattle.projection.specs.Worked.{worked-forward}
 use Rattle.records.specs.declared.Record as records
+use Rattle.records.specs.declared.Record.the-variants as record-case
+use Rattle.job_state.specs.declared.state.Phase as phases
 use Rattle.job_state.specs.declared.state.Answer as answers
 use Rattle.job_state.specs.declared.state.Answer.the-variants.{Silent, Field, Nozzle, Point, Refused, Crossed}
 use Rattle.job_state.specs.declared.state.Job.{Job}
 use Rattle.job_state.specs.declared.state.Taken.{Taken}
-use Rattle.job_state.specs.States.{view, paper, stepped, left, Stepping}
+use Rattle.job_state.specs.States.{view, paper, stepped, after-record, left, Stepping}
+use Rattle.job_state.specs.InPlace.{Counts, Answering, Cornering}
 use Rattle.job_state.specs.Laws.Lines.{told-apart}
 
 -- the state after a record, by what the paper has of its answer; after a refusal, the state before it
@@ -50,3 +55,13 @@ takes-one {s} {i} {j} {r} {t} h g =
   where
     one : {j k : Job} {a b : answers.Answer} → j ≡ k → a ≡ b → _≡_ {A = Taken} (record { job = j; answer = a }) (record { job = k; answer = b })
     one e f = rw (e, f) refl
+
+-- ---- in place
+pub answers-alike : {has : Job → Type 0} {i : records.Record} {a : answers.Answer} {j : Job} {t : Taken} → Answering has i a → has j
+    → Stepping (stepped worked-forward (view j) i) i j t → t ≡ record { job = j; answer = a }
+answers-alike {j = j} h g s = takes-one s (h .steps j g)
+
+pub stores-alike : {p : phases.Phase} {n : ℕ} {X Y : ℤ} {j : Job} {t : Taken} → Cornering p n X Y 0 → Counts p n j
+    → Stepping (stepped worked-forward (view j) (record-case.Corner X Y)) (record-case.Corner X Y) j t
+    → t ≡ record { job = after-record (record-case.Corner X Y) j; answer = Silent }
+stores-alike {j = j} h g s = takes-one s (h .stores refl j g)

@@ -1,6 +1,5 @@
 -- `job_state::state::Job::accept` meets its contract. Assumes nothing.
-use mathlib.Core.Path.{subst, sym}
-use Prim.Native.Nat.{ℕ, _≤_}
+use native.Mathlib.Omega.{arith}
 use mir.Facts.{toZ-ofZ}
 use Rattle.job_state.proofs.Limits.{unmapped, few}
 use Rattle.job_state.proofs.Steps.{accepts, refuses, crosses}
@@ -12,9 +11,7 @@ counted-requires : tie.Need-counted-requires
 counted-requires c κs = search needs
 
 judge-requires : tie.Need-judge-requires
-judge-requires c κs =
-    let s = c .before .before .args .self in
-    subst (λ (n : ℕ). n ≤ 1024) (sym (c .counted .ensures)) (few (s .corners) (s .count) (unmapped _ (s .corners) (c .before .before .good .0 .1 .1 .0 .1 .0 .1)))
+judge-requires c κs = let f = few (c .before .before .args .self .count) in let e = c .counted .ensures in omega arith
 
 enum-known-judged : tie.Need-enum-known-judged
 enum-known-judged c = search needs

@@ -1,52 +1,34 @@
 -- `job_state::state::Job::query` meets its contract. Assumes nothing.
+use mathlib.Core.Path.{refl}
 use Rattle.projection.specs.Worked.{worked-forward}
 use Rattle.records.specs.declared.Record.the-variants.{Query}
 use Rattle.job_state.specs.States.{stepped, view}
-use Rattle.job_state.proofs.Steps.{stepping-at, refusing, read-two, idle-query, gathering-query}
+use Rattle.job_state.proofs.Limits.{unmapped}
+use Rattle.job_state.proofs.Steps.{read-two}
 use borrow.Author.Needs.{needs}
 use Rattle.job_state.proofs.state.Job.query.Statement.{statement}
 use Rattle.job_state.proofs.state.Job.query.Tie as tie
 
-enum-told : tie.Need-enum-told
-enum-told c = search needs
+lay-out-requires : tie.Need-lay-out-requires
+lay-out-requires c κs = search needs
 
-out-of-place-requires : tie.Need-out-of-place-requires
-out-of-place-requires c κs = search needs
+slice-aggregate-query-answer : tie.Need-slice-aggregate-query-answer
+slice-aggregate-query-answer c = search needs
 
-enum-told-2 : tie.Need-enum-told-2
-enum-told-2 c = search needs
-
-out-of-place-requires-2 : tie.Need-out-of-place-requires-2
-out-of-place-requires-2 c κs = search needs
-
-enum-told-3 : tie.Need-enum-told-3
-enum-told-3 c = search needs
-
-locate-requires : tie.Need-locate-requires
-locate-requires c κs = search needs
+query-answer-requires : tie.Need-query-answer-requires
+query-answer-requires c κs = search needs
 
 returns : tie.Need-returns
 returns c =
-    stepping-at (idle-query worked-forward _ _ _ (c .before .enum-told .given .1)) (refusing 13 _ (c .out-of-place .ensures .0) (c .out-of-place .ensures .1))
-
-returns-2 : tie.Need-returns-2
-returns-2 c =
-    stepping-at (gathering-query worked-forward _ _ _ (c .before .enum-told2 .given .1)) (refusing 13 _ (c .out-of-place2 .ensures .0) (c .out-of-place2 .ensures .1))
-
-returns-3 : tie.Need-returns-3
-returns-3 c =
-    read-two (λ X Y. stepped worked-forward (view (c .before .before .before .args .self)) (Query X Y)) Query _ _ (c .before .before .before .fits .x) (c .before .before .before .fits .y) (c .locate .ensures)
+    let s = c .before .before .before .before .args .self in
+    read-two (λ X Y. stepped worked-forward (view s) (Query X Y)) Query _ _ (c .before .before .before .before .fits .x) (c .before .before .before .before .fits .y)
+    (c .query-answer .ensures .steps s
+    (record {
+      counts = record { phase-is = refl; count-is = refl; long = unmapped _ (s .corners) (c .before .before .before .before .good .0 .1 .1 .0 .1 .0 .1) };
+      laid = c .before .before .lay-out .ensures .1;
+    }))
 
 pub query-spec : {M : Type 1} → statement M
 query-spec =
     tie.close
-    (tie.spec
-    enum-told
-    out-of-place-requires
-    enum-told-2
-    out-of-place-requires-2
-    enum-told-3
-    locate-requires
-    returns
-    returns-2
-    returns-3)
+    (tie.spec lay-out-requires slice-aggregate-query-answer query-answer-requires returns)

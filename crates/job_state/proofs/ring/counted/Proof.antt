@@ -1,7 +1,7 @@
--- `job_state::state::counted` meets its contract. Assumes nothing.
+-- `job_state::ring::counted` meets its contract. Assumes nothing.
 use borrow.Author.Tests.{lt-ltb, le-ltb}
-use Rattle.job_state.proofs.state.counted.Statement.{statement}
-use Rattle.job_state.proofs.state.counted.Tie as tie
+use Rattle.job_state.proofs.ring.counted.Statement.{statement}
+use Rattle.job_state.proofs.ring.counted.Tie as tie
 
 returns : tie.Need-returns
 returns c = simp (lt-ltb _ _ (c .if1 .taken))

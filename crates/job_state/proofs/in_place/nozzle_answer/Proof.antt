@@ -1,10 +1,10 @@
--- `job_state::state::nozzle_answer` meets its contract. Assumes nothing.
+-- `job_state::in_place::nozzle_answer` meets its contract. Assumes nothing.
 use Rattle.job_state.specs.declared.state.Position.the-variants.{Open, Border, Shut}
 use mathlib.Core.Path.{refl}
 use Rattle.job_state.proofs.Steps.{nozzle-is, none-accepted}
 use borrow.Author.Needs.{needs}
-use Rattle.job_state.proofs.state.nozzle_answer.Statement.{statement}
-use Rattle.job_state.proofs.state.nozzle_answer.Tie as tie
+use Rattle.job_state.proofs.in_place.nozzle_answer.Statement.{statement}
+use Rattle.job_state.proofs.in_place.nozzle_answer.Tie as tie
 
 enum-told : tie.Need-enum-told
 enum-told c = search needs

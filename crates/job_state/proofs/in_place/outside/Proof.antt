@@ -1,7 +1,7 @@
--- `job_state::state::outside` meets its contract. Assumes nothing.
+-- `job_state::in_place::outside` meets its contract. Assumes nothing.
 use Rattle.job_state.proofs.Limits.{high, other}
-use Rattle.job_state.proofs.state.outside.Statement.{statement}
-use Rattle.job_state.proofs.state.outside.Tie as tie
+use Rattle.job_state.proofs.in_place.outside.Statement.{statement}
+use Rattle.job_state.proofs.in_place.outside.Tie as tie
 
 returns : tie.Need-returns
 returns c = high _ (c .before .fits .z) (c .if1 .taken)

@@ -1,8 +1,8 @@
--- `job_state::state::point_answer` meets its contract. Assumes nothing.
+-- `job_state::in_place::forward_answer` meets its contract. Assumes nothing.
 use Rattle.job_state.proofs.Steps.{point-is, point-refused}
 use borrow.Author.Needs.{needs}
-use Rattle.job_state.proofs.state.point_answer.Statement.{statement}
-use Rattle.job_state.proofs.state.point_answer.Tie as tie
+use Rattle.job_state.proofs.in_place.forward_answer.Statement.{statement}
+use Rattle.job_state.proofs.in_place.forward_answer.Tie as tie
 
 enum-known-projected : tie.Need-enum-known-projected
 enum-known-projected c = search needs
@@ -17,6 +17,6 @@ returns c =
 returns-2 : tie.Need-returns-2
 returns-2 c = point-refused (c .before .projected2 .given .1)
 
-pub point-answer-spec : {M : Type 1} → statement M
-point-answer-spec =
+pub forward-answer-spec : {M : Type 1} → statement M
+forward-answer-spec =
     tie.close (tie.spec enum-known-projected enum-known-projected-2 returns returns-2)

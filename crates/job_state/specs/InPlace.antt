@@ -1,0 +1,45 @@
+-- What the functions of in_place promise. The job itself is not handed to them, only the few numbers of it that the answer rests on; so each says what a record
+-- makes of every job that has those numbers. Alike shows that this is what `Job::take` makes of it. Assumes nothing.
+use mathlib.Core.Path.{_≡_}
+use mathlib.Core.List.{List}
+use Prim.Native.Nat.{ℕ, _*_, _<_}
+use lib.IntN.{ℤ}
+use lib.ListN.{length, take}
+use Rattle.rules.specs.JobFile.{pointed}
+use Rattle.projection.specs.Worked.{worked-forward}
+use Rattle.records.specs.declared.Record as records
+use Rattle.records.specs.declared.Record.the-variants as record-case
+use Rattle.job_state.specs.declared.state.Phase as phases
+use Rattle.job_state.specs.declared.state.Answer as answers
+use Rattle.job_state.specs.declared.state.Answer.the-variants.{Silent, Refused}
+use Rattle.job_state.specs.declared.state.Job.{Job}
+use Rattle.job_state.specs.Gathered.{ring-of, counted, flat}
+use Rattle.job_state.specs.States.{view, stepped, after-record, Stepping}
+
+-- ---- the jobs that have the numbers: of a phase; and of a count of corners; and with the counted corners laid out in a list, X and Y in turn, from its start on
+abbrev pub In : phases.Phase → Job → Type 0
+In p j = j .phase ≡ p
+
+pub record Counts (p : phases.Phase) (n : ℕ) (j : Job) : Type 0 where
+  pub phase-is : In p j
+  pub count-is : j .count ≡ n
+  pub long : length (j .corners) ≡ 1024
+
+pub record Lies (p : phases.Phase) (n : ℕ) (numbers : List ℤ) (j : Job) : Type 0 where
+  pub counts : Counts p n j
+  pub laid : take (2 * counted n) numbers ≡ flat (ring-of n (j .corners))
+
+-- ---- an answer that leaves the job as it was
+pub record Answering (has : Job → Type 0) (i : records.Record) (a : answers.Answer) : Type 0 where
+  pub steps : (j : Job) → has j → Stepping (stepped worked-forward (view j) i) i j (record { job = j; answer = a })
+
+-- ---- kind 2: the refusal, or 0 where the corner is stored behind the others
+pub record Cornering (p : phases.Phase) (n : ℕ) (X Y : ℤ) (refusal : ℕ) : Type 0 where
+  pub room : refusal ≡ 0 → n < 1024
+  pub stores : refusal ≡ 0 → (j : Job) → Counts p n j
+      → Stepping (stepped worked-forward (view j) (record-case.Corner X Y)) (record-case.Corner X Y) j (record { job = after-record (record-case.Corner X Y) j; answer = Silent })
+  pub refuses : 0 < refusal → Answering (Counts p n) (record-case.Corner X Y) (Refused refusal)
+
+-- ---- kind 5, where no field is gathered
+pub record Projecting (c : ℕ) (B L : ℤ) (a : answers.Answer) : Type 0 where
+  pub steps : (j : Job) → Stepping (pointed (view j) (worked-forward c B L)) (record-case.Point c B L) j (record { job = j; answer = a })
