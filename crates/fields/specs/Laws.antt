@@ -6,6 +6,7 @@
 --   Joining    one inner ring more, by the crossing test and by where it lies
 --   Outer      a field's acceptance by what is said of its outer ring
 --   Accepting  what the loop that accepts them keeps
+--   Reading    what the loop that reads a field again keeps
 --   Tangled    what the loop that holds a ring against the inner ones keeps
 --   Walks      the walk over the rings gives the rules' answer
 pub mod Cut
@@ -16,4 +17,5 @@ pub mod Joining
 pub mod Outer
 pub mod Accepting
 pub mod Tangled
+pub mod Reading
 pub mod Walks

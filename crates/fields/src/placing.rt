@@ -71,6 +71,18 @@ fn one_more(
     }
 }
 
+// One inner ring more, with the boxes of the outer one filled for it.
+pub fn join_checked(counts: &[u32], corners: &[i64], ring: &[i64]) -> FieldAnswer
+    requires { ⌜ Checked (now counts) (now corners) ⌝ }
+    ensures { λ r. ⌜ field-paper r ≡ passed-one (cut (now (counts .entry)) (now (corners .entry))) (now (ring .entry)) ⌝ }
+{
+    let mut lows = [0i64; 128];
+    let mut highs = [0i64; 128];
+    let end = 2 * (counts[0] as usize);
+    ring_boxes::fill(&corners[0..end], end / 2 - 1, &mut lows, &mut highs);
+    one_more(counts, corners, &lows, &highs, ring)
+}
+
 // All inner rings, each beside those before it.
 fn accept_each(counts: &[u32], corners: &[i64], lows: &[i64], highs: &[i64]) -> FieldAnswer
     requires { ⌜ (0 < length (now counts)) × (2 * summed (now counts) ≡ length (now corners)) × Accepted (take (2 * getD (now counts) 0 0) (now corners)) × Outer-boxed (now counts) (now corners) (now lows) (now highs) ⌝ }

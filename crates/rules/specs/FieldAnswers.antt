@@ -106,3 +106,11 @@ unfoldable pub field-position-answer : List ℕ → List ℤ → Corner → Answ
 field-position-answer counts numbers p = do
   f ← field-read counts numbers
   answered (field-nozzle f p)
+
+-- a ring that joins a field that was accepted before: the field is read, and then the ring's own 16, 6, 7, 8, 9 and 15
+unfoldable pub join-answer : List ℕ → List ℤ → List ℤ → Answer Passed
+join-answer counts numbers ring = do
+  f ← field-read counts numbers
+  r ← inner-checks (length (f .inner-rings)) ring
+  placed f r
+  answered passed

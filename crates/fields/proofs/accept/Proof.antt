@@ -2,7 +2,7 @@
 use mathlib.Core.Path.{_≡_, sym, _∙_, ap}
 use mathlib.Core.Bool.{false}
 use mathlib.Core.List.{List}
-use Prim.Native.Nat.{ℕ, _*_, _-_, _<_, _≤_}
+use Prim.Native.Nat.{ℕ, _*_, _-_, _<_}
 use native.Mathlib.Omega.{arith}
 use lib.IntN.{ℤ}
 use lib.ListN.{length, take, getD}
@@ -10,7 +10,7 @@ use Rattle.rules.specs.RingAnswers.{crossing-answer}
 use Rattle.rules.specs.FieldAnswers.{uneven}
 use Rattle.rings.specs.Answers.{crossing-paper}
 use Rattle.rings.specs.declared.CrossingAnswer.{CrossingAnswer}
-use Rattle.fields.specs.Laws.Cut.{summed-more, summed-most, less-none}
+use Rattle.fields.specs.Laws.Cut.{first-inside, less-none}
 use Rattle.fields.specs.Laws.Calls.{even}
 use Rattle.fields.specs.Laws.Outer.{accept-uneven, accept-none, outer-refused, outer-crossed, outer-accepts, outer-clean}
 use borrow.Author.Needs.{needs}
@@ -41,9 +41,6 @@ module _ (c : tie.Else2) where
   some : 0 < length counts
   some = let h = c .if2 .left in omega arith
 
-  first-inside : 2 * getD counts 0 0 ≤ length corners
-  first-inside = let m = summed-more counts 0 some in let t = summed-most counts 1 in let e = even counts corners fits in omega arith
-
 module _ (t : tie.After-crossing) where
   abbrev at : tie.Else2
   at = t .before .before .before
@@ -73,7 +70,7 @@ part-crossing-start : tie.Need-part-crossing-start
 part-crossing-start c = search needs
 
 part-crossing-end : tie.Need-part-crossing-end
-part-crossing-end c = first-inside (c .before)
+part-crossing-end c = let a = c .before in first-inside (counts a) (corners a) (some a) (even (counts a) (corners a) (fits a))
 
 crossing-requires : tie.Need-crossing-requires
 crossing-requires c κs = search needs

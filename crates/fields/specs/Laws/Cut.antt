@@ -50,6 +50,11 @@ left-over counts k left numbers e h =
       | no g ↦ le-ltb 0 left (omega arith) ∙ sym (ap not (eq-eqb (2 * summed counts) numbers (omega arith)))
     ]
 
+-- the first ring's numbers are all there
+pub first-inside : (counts : List ℕ) (numbers : List ℤ) → 0 < length counts → 2 * summed counts ≡ length numbers → 2 * getD counts 0 0 ≤ length numbers
+unfolding summed
+first-inside counts numbers h e = let m = summed-more counts 0 h in let t = summed-most counts 1 in omega arith
+
 -- ---- a part from a start to an end
 pub less-none : (n : ℕ) → n - 0 ≡ n
 less-none n = omega arith

@@ -84,16 +84,19 @@ rest-next rings numbers rest =
     rw (inner-rings-of rings) (ap (λ (a : Answer Field). a >> answered passed) (together (inner-checks (length rings - 1) numbers) (placed (as-field rings)) (λ g. inner-accepted g rest)))
 
 -- numbers that pass the checks of an inner ring
-ring-passed : (before : ℕ) (numbers : List ℤ) (r : List Corner) → inner-checks before numbers ≡ answered r → (r ≡ pairs numbers) × Accepted numbers
-ring-passed before numbers r e =
+pub inner-judged : (before : ℕ) (numbers : List ℤ) → ((inner-checks before numbers ≡ answered (pairs numbers)) × Accepted numbers) ⊎ ((n : ℕ) × (inner-checks before numbers ≡ refused n) × (0 < n))
+inner-judged before numbers =
     elim (decLt before 16) [
-      | no g ↦ absurd (clash (sym (seventeenth before numbers (omega arith)) ∙ e))
+      | no g ↦ inr (16, seventeenth before numbers (omega arith), omega arith)
       | yes g ↦
           elim (decLt 256 (length numbers)) [
-            | yes h ↦ absurd (clash (sym (too-long before numbers g h) ∙ e))
-            | no h ↦ ⊎-elim (λ j. (cc (j .0, e, not-long before numbers g (omega arith)), j .1)) (λ j. absurd (clash (sym (j .1) ∙ sym (not-long before numbers g (omega arith)) ∙ e))) (judgement numbers)
+            | yes h ↦ inr (6, too-long before numbers g h, omega arith)
+            | no h ↦ ⊎-elim (λ j. inl (not-long before numbers g (omega arith) ∙ j .0, j .1)) (λ j. inr (j .0, not-long before numbers g (omega arith) ∙ j .1, j .2)) (judgement numbers)
           ]
     ]
+
+ring-passed : (before : ℕ) (numbers : List ℤ) (r : List Corner) → inner-checks before numbers ≡ answered r → (r ≡ pairs numbers) × Accepted numbers
+ring-passed before numbers r e = ⊎-elim (λ j. (cc (j .0, e), j .1)) (λ j. absurd (clash (sym (j .1) ∙ e))) (inner-judged before numbers)
 
 pub one-passed : (rings : List (List ℤ)) (numbers : List ℤ) → (one-more rings numbers >> answered passed) ≡ answered passed
     → (one-more rings numbers ≡ answered (with-ring (as-field rings) (pairs numbers))) × Accepted numbers

@@ -7,6 +7,7 @@ use native.Mathlib.Numerals.{add-one}
 use native.Mathlib.Omega.{arith}
 use lib.IntN.{ℤ}
 use lib.ListN.{length, take, drop, getD, drop-of-length-le}
+use lib.Seq.{length-take-le}
 use Rattle.rules.specs.Rings.{Corner}
 use Rattle.rules.specs.Placing.{rings-meet, first-outside, entangled, entangled-any, misplaced}
 use Rattle.rules.specs.FieldAnswers.{summed, cut}
@@ -75,6 +76,10 @@ module _ (counts : List ℕ) (numbers : List ℤ) (s : List Corner) (c : Checked
 pub first-ring : (counts : List ℕ) (numbers : List ℤ) → 0 < length counts → getD (cut counts numbers) 0 [] ≡ take (2 * getD counts 0 0) numbers
 unfolding summed
 first-ring counts numbers h = ring-is counts numbers 0 h
+
+-- as many corners as are counted
+pub first-many : (counts : List ℕ) (numbers : List ℤ) → 2 * getD counts 0 0 ≤ length numbers → Accepted (take (2 * getD counts 0 0) numbers) → length (pairs (take (2 * getD counts 0 0) numbers)) ≡ getD counts 0 0
+first-many counts numbers h a = let e = a .even in let l = length-take-le (2 * getD counts 0 0) numbers h in omega arith
 
 outer-of : (rings : List (List ℤ)) → 0 < length rings → as-field rings .outer-ring ≡ pairs (getD rings 0 [])
 unfolding as-field

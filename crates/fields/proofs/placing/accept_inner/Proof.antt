@@ -5,11 +5,10 @@ use Prim.Native.Nat.{ℕ, _+_, _*_, _-_, _/_, _≤_}
 use native.Mathlib.Omega.{arith}
 use lib.IntN.{ℤ}
 use lib.ListN.{length, take, getD}
-use lib.Seq.{length-take-le}
 use Rattle.ring_corners.specs.Corners.{pairs, Accepted}
 use Rattle.ring_boxes.specs.Boxes.{Boxed}
-use Rattle.fields.specs.Laws.Cut.{summed-more, summed-most, less-none}
-use Rattle.fields.specs.Laws.Tangled.{first-ring}
+use Rattle.fields.specs.Laws.Cut.{first-inside, less-none}
+use Rattle.fields.specs.Laws.Tangled.{first-ring, first-many}
 use borrow.Author.Needs.{needs}
 use Rattle.fields.proofs.placing.accept_inner.Statement.{statement}
 use Rattle.fields.proofs.placing.accept_inner.Tie as tie
@@ -25,11 +24,11 @@ module _ (st : tie.Start) where
   part : take (2 * getD counts 0 0 - 0) corners ≡ take (2 * getD counts 0 0) corners
   part = ap (λ (m : ℕ). take m corners) (less-none (2 * getD counts 0 0))
 
-  first-inside : 2 * getD counts 0 0 ≤ length corners
-  first-inside = let m = summed-more counts 0 (st .pre .0) in let t = summed-most counts 1 in let e = st .pre .1 in omega arith
+  inside : 2 * getD counts 0 0 ≤ length corners
+  inside = first-inside counts corners (st .pre .0) (st .pre .1)
 
   many : length (pairs (take (2 * getD counts 0 0) corners)) ≡ getD counts 0 0
-  many = let e = st .pre .2 .even in let l = length-take-le (2 * getD counts 0 0) corners first-inside in omega arith
+  many = first-many counts corners inside (st .pre .2)
 
 shared-slice-read-end : tie.Need-shared-slice-read-end
 shared-slice-read-end c = search needs
@@ -47,7 +46,7 @@ part-fill-start : tie.Need-part-fill-start
 part-fill-start c = search needs
 
 part-fill-end : tie.Need-part-fill-end
-part-fill-end c = first-inside (c .before .before)
+part-fill-end c = inside (c .before .before)
 
 sub-fill-2 : tie.Need-sub-fill-2
 sub-fill-2 c = let t = c .before .before .before in let n = many t in let h = t .pre .2 .at-least in omega arith

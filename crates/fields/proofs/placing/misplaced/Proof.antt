@@ -2,14 +2,14 @@
 use mathlib.Core.Path.{_≡_, sym, _∙_, ap, subst}
 use mathlib.Core.Bool.{_||_}
 use mathlib.Core.List.{List}
-use Prim.Native.Nat.{ℕ, _*_, _-_, _≤_}
+use Prim.Native.Nat.{ℕ, _*_, _-_}
 use native.Mathlib.Omega.{arith}
 use lib.IntN.{ℤ}
-use lib.ListN.{length, take, getD}
+use lib.ListN.{take, getD}
 use Rattle.rules.specs.Placing.{rings-meet, first-outside}
 use Rattle.ring_corners.specs.Corners.{pairs, Accepted}
 use Rattle.ring_boxes.specs.Boxes.{Boxed}
-use Rattle.fields.specs.Laws.Cut.{summed-more, summed-most, less-none}
+use Rattle.fields.specs.Laws.Cut.{first-inside, less-none}
 use Rattle.fields.specs.Laws.Tangled.{first-ring, misplaced-outer, misplaced-inner}
 use borrow.Author.Needs.{needs}
 use Rattle.fields.proofs.placing.misplaced.Statement.{statement}
@@ -25,13 +25,6 @@ module _ (st : tie.Start) where
 
   part : take (2 * getD counts 0 0 - 0) corners ≡ take (2 * getD counts 0 0) corners
   part = ap (λ (m : ℕ). take m corners) (less-none (2 * getD counts 0 0))
-
-  first-inside : 2 * getD counts 0 0 ≤ length corners
-  first-inside =
-      let m = summed-more counts 0 (st .pre .0 .some) in
-      let t = summed-most counts 1 in
-      let e = st .pre .0 .even in
-      omega arith
 
 shared-slice-read-end : tie.Need-shared-slice-read-end
 shared-slice-read-end c = search needs
@@ -49,7 +42,7 @@ part-not-inside-start : tie.Need-part-not-inside-start
 part-not-inside-start c = search needs
 
 part-not-inside-end : tie.Need-part-not-inside-end
-part-not-inside-end c = first-inside (c .before .before)
+part-not-inside-end c = let t = c .before .before in first-inside (counts t) (corners t) (t .pre .0 .some) (t .pre .0 .even)
 
 not-inside-requires : tie.Need-not-inside-requires
 not-inside-requires c κs =

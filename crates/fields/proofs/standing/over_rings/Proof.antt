@@ -13,7 +13,7 @@ use Rattle.rings.specs.Answers.{nozzle-paper, position-answer}
 use Rattle.ring_corners.specs.Laws.Signed.{raw-is}
 use Rattle.fields.specs.Walks.{rings-position, inner-position, both-answers}
 use Rattle.ring_corners.specs.Corners.{corner}
-use Rattle.fields.specs.Laws.Cut.{summed-more, summed-most, less-none, less-start}
+use Rattle.fields.specs.Laws.Cut.{first-inside, less-none, less-start}
 use Rattle.fields.specs.Laws.Walks.{Going, going-start, going-end, going-many, going-on, inside}
 use borrow.Author.Needs.{needs}
 use Rattle.fields.proofs.standing.over_rings.Statement.{statement}
@@ -24,14 +24,6 @@ Inv-loop counts corners px py at₀ so-far₀ k₀ at so-far k = Going counts co
 
 abbrev μ-loop : tie.MeasureT-loop
 μ-loop counts corners px py at₀ so-far₀ k₀ at so-far k = length counts - k
-
--- the first ring's numbers are all there
-first-inside : (st : tie.Start Inv-loop μ-loop) → 2 * getD (st .args .counts .now) 0 0 ≤ length (st .args .corners .now)
-first-inside st =
-    let m = summed-more (st .args .counts .now) 0 (st .pre .0) in
-    let t = summed-most (st .args .counts .now) 1 in
-    let e = st .pre .1 in
-    omega arith
 
 shared-slice-read-at : tie.Need-shared-slice-read-at Inv-loop μ-loop
 shared-slice-read-at c = search needs
@@ -49,7 +41,7 @@ part-position-start : tie.Need-part-position-start Inv-loop μ-loop
 part-position-start c = search needs
 
 part-position-end : tie.Need-part-position-end Inv-loop μ-loop
-part-position-end c = first-inside (c .before .before)
+part-position-end c = let st = c .before .before in first-inside (st .args .counts .now) (st .args .corners .now) (st .pre .0) (st .pre .1)
 
 position-requires : tie.Need-position-requires Inv-loop μ-loop
 position-requires c κs = search needs
