@@ -6,13 +6,8 @@ use lib.IntN.{ℤ, pos}
 use Rattle.rules.specs.Refusals.{Answer, answered, refused, crossed-at}
 use Rattle.rules.specs.Points.{Point, Ticks}
 use Rattle.rules.specs.Rings.{Corner}
-use Rattle.rules.specs.RingAnswers.{Nozzle, shut-nozzle, open-nozzle, border-nozzle}
-
--- the array lent for an answer: the answer's numbers, and on a refusal what it held
-abbrev pub lent : {A : Type 0} → (A → List ℤ) → Answer A → List ℤ → List ℤ
-lent numbers (answered a) before = numbers a
-lent numbers (refused n) before = before
-lent numbers (crossed-at pair) before = before
+-- the array lent for an answer, and what the header says for shut, open and border
+pub use Rattle.terminal_fields.specs.Lent.{lent, nozzle-number}
 
 -- the array lent for the edges of refusal 9: its edges, and else what it held
 abbrev pub edges-lent : {A : Type 0} → Answer A → List ℤ → List ℤ
@@ -44,9 +39,3 @@ plane-numbers c = c .x ∷ c .y ∷ []
 
 abbrev pub whole-number : ℤ → List ℤ
 whole-number z = z ∷ []
-
--- what the header says for shut, open and border
-abbrev pub nozzle-number : Nozzle → List ℤ
-nozzle-number shut-nozzle = pos 0 ∷ []
-nozzle-number open-nozzle = pos 1 ∷ []
-nozzle-number border-nozzle = pos 2 ∷ []
