@@ -13,17 +13,25 @@ struct Ring {
 
 static const int64_t RADIUS = 9000000;
 
-// A border as growers have them: corners in the order of their directions, at distances that vary.
-static inline Ring field(int corners) {
-    Random random(7 + corners);
-    Ring made{"field", {}};
+struct Place {
+    int64_t x, y;
+};
+
+// Corners in the order of their directions from a middle, at random distances from `least` of the radius to all of it.
+static inline std::vector<int64_t> around(Random random, Place middle, double radius, double least, int corners) {
+    std::vector<int64_t> made;
     for (int k = 0; k < corners; k++) {
-        double angle = 2 * M_PI * k / corners, distance = RADIUS * (0.6 + 0.4 * random.unit());
-        made.numbers.push_back(5800000000 + llround(distance * cos(angle)));
-        made.numbers.push_back(6400000000 + llround(distance * sin(angle)));
+        double angle = 2 * M_PI * k / corners, distance = radius * (least + (1 - least) * random.unit());
+        made.push_back(middle.x + llround(distance * cos(angle)));
+        made.push_back(middle.y + llround(distance * sin(angle)));
     }
     return made;
 }
+
+static const Place MIDDLE = {5800000000, 6400000000};
+
+// A border as growers have them: corners in the order of their directions, at distances that vary.
+static inline Ring field(int corners) { return {"field", around(Random(7 + corners), MIDDLE, RADIUS, 0.6, corners)}; }
 
 // Long thin teeth side by side: every box of an edge meets the boxes of few others, and a line across meets many edges.
 static inline Ring comb(int corners) {
@@ -52,10 +60,6 @@ static inline Ring exchanged(Ring ring) {
     std::swap(ring.numbers[1], ring.numbers[half + 1]);
     return ring;
 }
-
-struct Place {
-    int64_t x, y;
-};
 
 // Random places of the ring's box.
 static inline std::vector<Place> places_of(const Ring &ring, int count) {
