@@ -2,7 +2,7 @@
 -- badly placed ring by computing is in Placing, and Laws.Placing shows that it answers by these rules. Assumes nothing.
 use mathlib.Core.Path.{_≡_}
 use mathlib.Core.Bool.{Bool, true, false, not, _||_}
-use mathlib.Core.List.{List, [], _∷_, List·Memᴰ}
+use mathlib.Core.List.{List, [], _∷_, _++_, List·Memᴰ}
 use lib.IntN.{pos}
 use Rattle.rules.specs.Rings.{Corner, Edge, edges, turning-number, border, isZero, Share}
 use Rattle.rules.specs.RingAnswers.{Nozzle, open-nozzle, border-nozzle, shut-nozzle}
@@ -38,6 +38,11 @@ pub data Misplaced (f : Field) (s : List Corner) : Type 0 where
   meets-inner : (r : List Corner) → List·Memᴰ r (f .inner-rings) → Meeting r s → Misplaced f s
   inside-inner : (r : List Corner) → List·Memᴰ r (f .inner-rings) → Lies-inside r s → Misplaced f s
   around-inner : (r : List Corner) → List·Memᴰ r (f .inner-rings) → Lies-inside s r → Misplaced f s
+
+-- the inner rings of a field, none of them badly placed among those before it
+pub data Well-placed (o : List Corner) : List (List Corner) → Type 0 where
+  none : Well-placed o []
+  more : {rs : List (List Corner)} {r : List Corner} → Well-placed o rs → ¬ Misplaced (record { outer-ring = o; inner-rings = rs }) r → Well-placed o (rs ++ (r ∷ []))
 
 -- ---- "A nozzle is open if the outer ring has it open and it is neither inside nor on an inner ring; on an inner edge it is border."
 unfoldable pub on-any : List (List Corner) → Corner → Bool

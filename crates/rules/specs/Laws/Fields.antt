@@ -1,17 +1,19 @@
 -- The nozzle rule over a field's rings, ring by ring: a field of one ring answers as the ring does, and one inner ring more is looked at beside those before it. And a field that
--- is accepted is read as it is accepted. Assumes nothing.
-use mathlib.Core.Path.{_≡_, refl, sym, _∙_, ap, ap₂}
+-- is accepted is read as it is accepted, and its inner rings are well placed. Assumes nothing.
+use mathlib.Core.Path.{_≡_, refl, sym, _∙_, ap, ap₂, subst}
 use mathlib.Core.Bool.{Bool, true, false, not, _||_}
 use mathlib.Core.List.{List, [], _∷_, _++_}
 use Prim.Native.Nat.{ℕ, suc}
 use native.Mathlib.Omega.{arith}
+use lib.Dec.{T}
 use lib.IntN.{ℤ}
 use lib.ListN.{length}
 use Rattle.rules.specs.Refusals.{Answer, answered, refused, CrossedPair, crossed-at, passed, _>>=_, _>>_, _if_, in-ring, corner-count, badly-placed}
 use Rattle.rules.specs.Rings.{Corner, edges, turning-number, border, isZero}
 use Rattle.rules.specs.RingAnswers.{ring-checks, not-crossed, Nozzle, open-nozzle, border-nozzle, shut-nozzle, nozzle}
-use Rattle.rules.specs.Fields.{Field, on-any, inside-any, field-nozzle}
+use Rattle.rules.specs.Fields.{Field, Well-placed, none, more, on-any, inside-any, field-nozzle}
 use Rattle.rules.specs.Placing.{misplaced}
+use Rattle.rules.specs.Laws.Placing.{misplaced-no}
 use Rattle.rules.specs.FieldAnswers.{alone, with-ring, inner-checks, placed, outer-accepted, inner-accepted, rings-accepted, inner-read, rings-read, uneven, cut, field-accepted, field-read, accept-answer, field-nozzle-answer, field-position-answer}
 
 -- on an edge or not, and shut or not
@@ -149,3 +151,52 @@ module _ (counts : List ℕ) (numbers : List ℤ) (p : Corner) where
       go (answered g) e = absurd (let z : _≡_ {A = ℕ} 0 1 = cc e in omega arith)
       go (refused m) e = absurd (let z : _≡_ {A = ℕ} 0 1 = cc e in omega arith)
       go (crossed-at other) e = cc e
+
+-- ---- the inner rings of a field that is accepted are well placed
+abbrev Well : Field → Type 0
+Well f = Well-placed (f .outer-ring) (f .inner-rings)
+
+placed-well : (f : Field) (r : List Corner) (g : Field) → Well f → placed f r ≡ answered g → Well g
+unfolding placed
+placed-well f r g w e = subst Well (sym (placed-is f r g e)) (more w (λ m. clear (in-ring (suc (length (f .inner-rings))) (not-crossed r)) (misplaced f r) (misplaced-no f r m) e))
+  where
+    clear : (a : Answer ℕ) (b : Bool) → T b → (a >> (badly-placed if b >> answered (with-ring f r))) ≡ answered g → ⊥
+    clear (answered n) true t e = let z : _≡_ {A = ℕ} 0 1 = cc e in omega arith
+    clear (answered n) false t e = t
+    clear (refused n) b t e = let z : _≡_ {A = ℕ} 0 1 = cc e in omega arith
+    clear (crossed-at pair) b t e = let z : _≡_ {A = ℕ} 0 1 = cc e in omega arith
+
+well-and-rest : (f : Field) (a : Answer (List Corner)) (rest : List (List ℤ)) (g : Field) → Well f → ((h : Field) → Well h → inner-accepted h rest ≡ answered g → Well g)
+    → (a >>= λ r. placed f r >>= λ h. inner-accepted h rest) ≡ answered g → Well g
+well-and-rest f (answered r) rest g w k = go (placed f r) refl
+  where
+    go : (b : Answer Field) → placed f r ≡ b → (b >>= λ h. inner-accepted h rest) ≡ answered g → Well g
+    go (answered h) x e = k h (placed-well f r h w x) e
+    go (refused n) x e = absurd (let z : _≡_ {A = ℕ} 0 1 = cc e in omega arith)
+    go (crossed-at pair) x e = absurd (let z : _≡_ {A = ℕ} 0 1 = cc e in omega arith)
+well-and-rest f (refused n) rest g w k = λ e. absurd (let z : _≡_ {A = ℕ} 0 1 = cc e in omega arith)
+well-and-rest f (crossed-at pair) rest g w k = λ e. absurd (let z : _≡_ {A = ℕ} 0 1 = cc e in omega arith)
+
+inner-well : (f : Field) (rest : List (List ℤ)) (g : Field) → Well f → inner-accepted f rest ≡ answered g → Well g
+unfolding inner-accepted
+inner-well f [] g w e = let p : f ≡ g = cc e in subst Well p w
+inner-well f (numbers ∷ rest) g w e = well-and-rest f (inner-checks (length (f .inner-rings)) numbers) rest g w (λ h v. inner-well h rest g v) e
+
+pub accepted-well : (counts : List ℕ) (numbers : List ℤ) (g : Field) → field-accepted counts numbers ≡ answered g → Well-placed (g .outer-ring) (g .inner-rings)
+unfolding field-accepted rings-accepted outer-accepted
+accepted-well counts numbers g = go (uneven counts numbers) (cut counts numbers)
+  where
+    first : (r : List Corner) (a : Answer ℕ) (rest : List (List ℤ)) → ((a >> answered (alone r)) >>= λ f. inner-accepted f rest) ≡ answered g → Well g
+    first r (answered n) rest e = inner-well (alone r) rest g none e
+    first r (refused n) rest e = absurd (let z : _≡_ {A = ℕ} 0 1 = cc e in omega arith)
+    first r (crossed-at pair) rest e = absurd (let z : _≡_ {A = ℕ} 0 1 = cc e in omega arith)
+
+    checked : (a : Answer (List Corner)) (rest : List (List ℤ)) → ((a >>= λ r. not-crossed r >> answered (alone r)) >>= λ f. inner-accepted f rest) ≡ answered g → Well g
+    checked (answered r) rest e = first r (not-crossed r) rest e
+    checked (refused n) rest e = absurd (let z : _≡_ {A = ℕ} 0 1 = cc e in omega arith)
+    checked (crossed-at pair) rest e = absurd (let z : _≡_ {A = ℕ} 0 1 = cc e in omega arith)
+
+    go : (b : Bool) (rings : List (List ℤ)) → (corner-count if b >> rings-accepted rings) ≡ answered g → Well g
+    go true rings e = absurd (let z : _≡_ {A = ℕ} 0 1 = cc e in omega arith)
+    go false [] e = absurd (let z : _≡_ {A = ℕ} 0 1 = cc e in omega arith)
+    go false (numbers ∷ rest) e = checked (ring-checks numbers) rest e
