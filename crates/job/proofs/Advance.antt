@@ -1,4 +1,4 @@
--- One whole record: its line, and how far the run is after it; and the end of the file. Assumes nothing.
+-- One whole record: its line, how far the run is after it, and the run; and the end of the file. Assumes nothing.
 use mathlib.Core.Path.{_≡_, refl, sym, ap, _∙_}
 use mathlib.Core.Bool.{Bool, true, false, _||_}
 use mathlib.Core.List.{List, [], _∷_}
@@ -20,15 +20,15 @@ use Rattle.job_state.specs.declared.state.Answer as answers
 use Rattle.job_state.specs.declared.state.Answer.the-variants as case
 use Rattle.job_state.specs.declared.state.Phase as phases
 use Rattle.job_state.specs.declared.state.Phase.the-variants.{Idle, Gathering, Accepted}
-use Rattle.job.specs.declared.run.Held.{Held}
-use Rattle.job.specs.declared.run.Place.{Place}
 use Rattle.job.specs.declared.run.Run.{Run}
+use Rattle.job.specs.declared.passage.Passage.{Passage}
 use Rattle.job_state.specs.declared.state.Job.{Job}
 use Rattle.job_state.specs.Gathered.{chosen, ring-of}
-use Rattle.job_state.specs.States.{view-by, view, line, paper, stepped, left}
+use Rattle.job_state.specs.States.{view-by, view, paper, stepped, Stepping}
 use Rattle.job.specs.Machine.{running, stopped, advanced, finished, held-of, progress-by}
 use Rattle.job_lines.specs.Printed.{Says, printed-at, refusal-text}
-use Rattle.job.specs.Runs.{refuses, progress, no-held, place-after, is-refused, run-after, Advancing, ending-by, last, last-text, Finishing}
+use Rattle.job.specs.Runs.{refuses, progress, no-held, place-after, is-refused, run-after, ending-by, last, last-text, Finishing}
+use Rattle.job.specs.Passages.{run-of, answered-at}
 
 pub said-short : (l : Line) → l .count ≤ 128 → length (said l) ≤ 128
 said-short l h = simp length-take (omega arith)
@@ -62,37 +62,26 @@ refuses-is (case.Point X Y k c) s = refl
 refuses-is (case.Refused n) s = refl
 refuses-is (case.Crossed i j looked) s = refl
 
-module _ (run : Run) (item : records.Record) (size : ℕ) where
-  placed : {p : Place} → p .offset ≡ (run .place .offset + size) % 2 ^ 64 → p .records ≡ (run .place .records + 1) % 2 ^ 64 → p ≡ place-after (run .place) size
-  placed {p} e f = one e f
+-- a record of `size` bytes that was answered `a`, from one job to another: what is printed, how far the run is then, and the run
+module _ (p : Passage) (size : ℕ) (i : records.Record) (j : Job) {j′ : Job} {a : answers.Answer}
+    (s : Stepping (stepped worked-forward (view j) i) i j (record { job = j′; answer = a })) where
+  pub answered-printed : advanced (p .place .offset) (p .place .records) size (stepped worked-forward (view j) i) .printed ≡ printed-at a (p .place .offset)
+  answered-printed =
+      ap (λ (t : rules.Answer Step). advanced (p .place .offset) (p .place .records) size t .printed) (sym (s .says))
+      ∙ line-is (p .place .offset) (p .place .records) size a (view j′)
+
+  pub answered-next : progress (run-of j′ (answered-at p a size)) ≡ advanced (p .place .offset) (p .place .records) size (stepped worked-forward (view j) i) .next
+  answered-next =
+      next-is (p .place .offset) (p .place .records) size a (view j′)
+      ∙ ap (λ (t : rules.Answer Step). advanced (p .place .offset) (p .place .records) size t .next) (s .says)
+
+  pub answered-run : run-of j′ (answered-at p a size) ≡ run-after (run-of j p) i size
+  answered-run = made (s .leaves) (refuses-is a (view j′) ∙ ap is-refused (s .says))
     where
-      one : {a b c d : ℕ} → a ≡ c → b ≡ d → _≡_ {A = Place} (record { offset = a; records = b }) (record { offset = c; records = d })
-      one e f = rw (e, f) refl
-
-  made : {j : Job} {h : Held} {p : Place} {b : Bool} → j ≡ left (stepped worked-forward (view (run .job)) item) item (run .job) → h ≡ no-held
-      → p ≡ place-after (run .place) size → b ≡ is-refused (stepped worked-forward (view (run .job)) item)
-      → record { job = j; held = h; place = p; stopped = b } ≡ run-after run item size
-  made e f g h = rw (e, f, g, h) refl
-
-  pub advances-by : {out out′ : List ℕ} {wrote end : ℕ} {l : Line} (a : answers.Answer) (r : Run)
-      → paper a (view (r .job)) ≡ stepped worked-forward (view (run .job)) item → r .job ≡ left (stepped worked-forward (view (run .job)) item) item (run .job)
-      → Says (printed-at a (run .place .offset)) l → r .stopped ≡ refuses a → r .place .offset ≡ (run .place .offset + size) % 2 ^ 64 → r .place .records ≡ (run .place .records + 1) % 2 ^ 64 → r .held ≡ no-held
-      → end ≡ wrote + length (said l) → out′ ≡ pasted wrote (said l) out
-      → Advancing (advanced (run .place .offset) (run .place .records) size (stepped worked-forward (view (run .job)) item)) (run-after run item size) out wrote
-      (record { run = r; wrote = end }) out′
-  advances-by {out} {out′} {wrote} {end} {l} a r e f says st o n h ends holds =
-      let line : advanced (run .place .offset) (run .place .records) size (stepped worked-forward (view (run .job)) item) .printed ≡ said l =
-      ap (λ (t : rules.Answer Step). advanced (run .place .offset) (run .place .records) size t .printed) (sym e)
-      ∙ line-is (run .place .offset) (run .place .records) size a (view (r .job)) ∙ sym (says .says) in
-      record {
-        short = rw line (said-short l (says .short));
-        end = rw line ends;
-        holds = rw line holds;
-        next =
-            rw (st, o, n, h) (next-is (run .place .offset) (run .place .records) size a (view (r .job)))
-            ∙ ap (λ (t : rules.Answer Step). advanced (run .place .offset) (run .place .records) size t .next) e;
-        run-is = made f h (placed o n) (st ∙ refuses-is a (view (r .job)) ∙ ap is-refused e);
-      }
+      made : {k l : Job} {b c : Bool} → k ≡ l → b ≡ c
+          → _≡_ {A = Run} (record { job = k; held = no-held; place = place-after (p .place) size; stopped = b })
+          (record { job = l; held = no-held; place = place-after (p .place) size; stopped = c })
+      made e f = rw (e, f) refl
 
 -- ---- the end of the file
 pub ending-is : (p : phases.Phase) (c : ℕ) (r : List ring.Corner) (offset count : ℕ) → ending (view-by p c r) offset count ≡ ending-by p offset count

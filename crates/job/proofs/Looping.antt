@@ -1,34 +1,38 @@
--- The loop over a chunk's bytes: its invariant, a byte that goes on, a byte that stops, and the loop's ends. Assumes nothing.
-use mathlib.Core.Path.{_≡_, refl, sym, ap, _∙_}
+-- The loop over a chunk's bytes: its invariant, a byte that goes on, a byte that stops, what each change asks, and the loop's ends. Assumes nothing.
+use mathlib.Core.Path.{_≡_, refl, sym, ap, _∙_, subst}
 use mathlib.Core.Bool.{Bool, true, false}
-use mathlib.Core.List.{List, [], _∷_, _++_, append-nil}
-use Prim.Native.Nat.{ℕ, suc, _+_, _-_, _≤_, _<_}
+use mathlib.Core.List.{List, [], _∷_, _++_, map, append-nil}
+use Prim.Native.Nat.{ℕ, suc, _+_, _-_, _*_, _≤_, _<_}
 use native.Mathlib.Numerals.{add-one}
 use native.Mathlib.Omega.{arith}
-use borrow.Author.Tests.{ne-eqb}
-use lib.ListN.{length, take, drop, getD, length-append, length-drop, take-append-drop, drop-of-length-le}
-use lib.Seq.{take-suc, take-length, drop-cons, drop-drop, take-append-seam, drop-append-add, length-take-le, paste-zero}
-use Rattle.rules.specs.Refusals.{body-cut-off}
-use Rattle.lines.specs.declared.Line.{Line}
-use Rattle.lines.specs.Said.{said, pasted}
+use borrow.Author.Tests.{ltb-true, ltb-false}
+use lib.Dec.{ltb}
+use lib.IntN.{ℤ}
+use lib.ListN.{length, take, drop, getD, length-append, length-drop, length-map, length-set, take-append-drop, drop-of-length-le}
+use lib.Seq.{take-suc, take-length, drop-cons, drop-drop, take-append-seam, drop-append-add, length-take-le}
+use Rattle.rules.specs.Refusals as rules
+use Rattle.rules.specs.Refusals.{refused, crossed-at}
+use Rattle.rules.specs.JobFile.{Step}
+use Rattle.lines.specs.Said.{pasted}
 use Rattle.projection.specs.Worked.{worked-forward}
-use Rattle.records.specs.declared.Record as code
-use Rattle.records.specs.declared.Cursor as cursors
-use Rattle.records.specs.declared.Read as reader
-use Rattle.records.specs.declared.Read.the-variants.{Whole, Refused, End}
-use Rattle.records.specs.Reader.{read-at}
-use Rattle.job.specs.declared.run.Held.{Held}
+use Rattle.records.specs.declared.Record as records
+use Rattle.records.specs.declared.Record.the-variants as record-case
+use Rattle.job_state.specs.declared.state.Answer as answers
+use Rattle.job_state.specs.declared.state.Job.{Job}
+use Rattle.job_state.specs.Gathered.{chosen, ring-of, counted, flat}
+use Rattle.job_state.specs.States.{view, stepped, after-record, left, Stepping}
+use Rattle.job_state.specs.InPlace.{Counts, Stands}
+use Rattle.job_lines.specs.Printed.{printed-at}
 use Rattle.job.specs.declared.run.Run.{Run}
 use Rattle.job.specs.declared.run.Fed as feds
-use Rattle.job_state.specs.Gathered.{chosen}
-use Rattle.job_state.specs.States.{view, stepped}
-use Rattle.job.specs.Machine.{Progress, running, stopped, Took, advanced, considered, byte-taken, fed, used-in, held-of, progress-by}
-use Rattle.job_lines.specs.Printed.{Says, refusal-text}
+use Rattle.job.specs.declared.passage.Change.the-variants.{Nothing, Store, LayOut, Take}
+use Rattle.job.specs.declared.passage.Passage.{Passage}
+use Rattle.job.specs.Machine.{Progress, stopped, Took, fed, used-in, held-of, progress-by}
 use Rattle.job.specs.Laws.Bytes.{then-next, then-printed, one-next, one-printed, stopped-next, stopped-printed, stopped-used, byte-used, no-room, none-used}
-use Rattle.job.specs.Runs.{progress, held-with, run-after, waiting, refused-run, run-by, run-with, run-byte, run-fed, Refusing, Feeding}
+use Rattle.job.specs.Runs.{progress, run-fed, Feeding}
+use Rattle.job.specs.Passages.{run-of, starting, answered-at, asking, Saying, Makes, Passing, Turned}
 use Rattle.job.specs.Laws.Structs.{run-then, run-one, run-stopped}
-use Rattle.job.proofs.Holding.{kept, cut-held, no-end}
-use Rattle.job.proofs.Advance.{said-short}
+use Rattle.job.proofs.Turning.{kept-as, stored, unlaid-yet, asked, answered}
 
 -- after the first `at` bytes: how far the run is, and what was written
 pub record Going (run₀ : Run) (chunk out₀ : List ℕ) (run : Run) (at wrote : ℕ) (out : List ℕ) : Type 0 where
@@ -70,14 +74,9 @@ paste-more a s o n e = rw e (ap (λ (t : List ℕ). t ++ s ++ drop (length a + l
     same : 0 + length a + length s ≡ 0 + length (a ++ s)
     same = let l = length-append a s in omega arith
 
--- what a byte makes of a run: how far it is then, what is printed, and the struct
-pub record Makes (run : Run) (byte : ℕ) (t : Took) (run′ : Run) : Type 0 where
-  pub taken : byte-taken worked-forward (progress run) byte ≡ t
-  pub made : run-byte run byte ≡ run′
-
 -- ---- one byte
 module _ (run₀ : Run) {chunk out₀ : List ℕ} {run : Run} {at wrote : ℕ} {out : List ℕ} (g : Going run₀ chunk out₀ run at wrote out) (inside : at < length chunk)
-    (room : 128 ≤ length out - wrote) {t : Took} {run₁ : Run} (m : Makes run (getD chunk at 0) t run₁) (short : length (t .printed) ≤ 128) where
+    (room : wrote + 128 ≤ length out) {t : Took} {run′ : Run} (m : Makes run (getD chunk at 0) t run′) (short : length (t .printed) ≤ 128) where
   next-take : take (at + 1) chunk ≡ take at chunk ++ (getD chunk at 0 ∷ [])
   next-take = ap (λ (k : ℕ). take k chunk) (add-one at) ∙ take-suc chunk at 0 inside
 
@@ -125,12 +124,12 @@ module _ (run₀ : Run) {chunk out₀ : List ℕ} {run : Run} {at wrote : ℕ} {
       one : (n : ℕ) → at + suc n ≡ at + 1 + n
       one n = omega arith
 
-  more-run : run-fed run₀ (take (at + 1) chunk) ≡ run₁
+  more-run : run-fed run₀ (take (at + 1) chunk) ≡ run′
   more-run =
       ap (run-fed run₀) next-take ∙ run-then run₀ (take at chunk) (getD chunk at 0 ∷ []) ∙ ap (λ (r : Run). run-fed r (getD chunk at 0 ∷ [])) (sym (g .is))
       ∙ run-one run (getD chunk at 0) ∙ m .made
 
-  module _ (run′ : Run) {wrote′ : ℕ} {out′ : List ℕ} (count : wrote′ ≡ wrote + length (t .printed)) (hold : out′ ≡ pasted wrote (t .printed) out) (far : progress run′ ≡ t .next) (same : run′ ≡ run₁) where
+  module _ {wrote′ : ℕ} {out′ : List ℕ} (count : wrote′ ≡ wrote + length (t .printed)) (hold : out′ ≡ pasted wrote (t .printed) out) (far : progress run′ ≡ t .next) where
     pub same-long : length out′ ≡ length out₀
     same-long =
         let l = g .long in
@@ -147,7 +146,7 @@ module _ (run₀ : Run) {chunk out₀ : List ℕ} {run : Run} {at wrote : ℕ} {
       holds = more-holds out′ hold;
       long = same-long;
       room = let l = g .long in omega arith;
-      is = same ∙ sym more-run;
+      is = sym more-run;
       used =
           more-used ∙ ap (λ (n : ℕ). at + 1 + used-in worked-forward (length out₀ - n) (t .next) (drop (at + 1) chunk)) (sym count)
           ∙ ap (λ (q : Progress). at + 1 + used-in worked-forward (length out₀ - wrote′) q (drop (at + 1) chunk)) (sym far);
@@ -180,7 +179,7 @@ module _ (run₀ : Run) {chunk out₀ : List ℕ} {run : Run} {at wrote : ℕ} {
           room = let l = g .long in omega arith;
           run-is =
               sym (ap (run-fed run₀) whole ∙ run-then run₀ (take (at + 1) chunk) (drop (at + 1) chunk)
-              ∙ ap (λ (r : Run). run-fed r (drop (at + 1) chunk)) (more-run ∙ sym same) ∙ run-stopped run′ (drop (at + 1) chunk) e);
+              ∙ ap (λ (r : Run). run-fed r (drop (at + 1) chunk)) more-run ∙ run-stopped run′ (drop (at + 1) chunk) e);
         }
       where
         sum : (n : ℕ) → length (drop (at + 1) chunk) ≡ n - (at + 1) → at < n → n ≡ at + 1 + length (drop (at + 1) chunk)
@@ -188,8 +187,8 @@ module _ (run₀ : Run) {chunk out₀ : List ℕ} {run : Run} {at wrote : ℕ} {
 
 -- ---- the loop's ends
 module _ (run₀ : Run) {chunk out₀ : List ℕ} {run : Run} {at wrote : ℕ} {out : List ℕ} (g : Going run₀ chunk out₀ run at wrote out) where
-  pub full : at < length chunk → length out - wrote < 128 → Feeding run₀ chunk out₀ (record { run = run; used = at; wrote = wrote }) out
-  full inside h = record {
+  pub full : length out < wrote + 128 → Feeding run₀ chunk out₀ (record { run = run; used = at; wrote = wrote }) out
+  full h = record {
     used =
         sym (g .used
         ∙ ap (λ (n : ℕ). at + n)
@@ -238,79 +237,167 @@ stopped-before run chunk out u e f =
       run-is = sym (run-stopped run (take u chunk) e);
     }
 
--- how far a run is that awaits more bytes
-abbrev pub waits : Run → Held → Took
-waits run begun = record { next = running (view (run .job)) (run .place .offset) (run .place .records) (take (begun .count) (begun .bytes)); printed = [] }
+-- ---- along the loop: the run goes on, or it is stopped and nothing is left of the chunk
+pub data Along (run₀ : Run) (chunk out₀ : List ℕ) (j : Job) (p : Passage) (out : List ℕ) : Type 0 where
+  going : p .left ≤ length chunk → Going run₀ chunk out₀ (run-of j p) (length chunk - p .left) (p .wrote) out → Along run₀ chunk out₀ j p out
+  ended : p .left ≡ 0 → length out ≡ length out₀ → Feeding run₀ chunk out₀ (record { run = run-of j p; used = length chunk; wrote = p .wrote }) out
+      → Along run₀ chunk out₀ j p out
 
--- ---- what a byte makes of a run, by what stands in the bytes that are then held
-module _ (run : Run) (byte : ℕ) (begun : Held) (found : reader.Read) (goes : run .stopped ≡ false)
-    (held : take (begun .count) (begun .bytes) ≡ held-of (run .held .count) (run .held .bytes) ++ (byte ∷ [])) (with : begun ≡ held-with (run .held) byte) (read : found ≡ read-at (take (begun .count) (begun .bytes)) 0) where
-  taken-as : byte-taken worked-forward (progress run) byte
-      ≡ considered worked-forward (view (run .job)) (run .place .offset) (run .place .records) (take (begun .count) (begun .bytes)) found
-  taken-as =
-      ap (λ (b : Bool). byte-taken worked-forward (progress-by b (view (run .job)) (run .place .offset) (run .place .records) (held-of (run .held .count) (run .held .bytes))) byte) goes
-      ∙ ap (λ (l : List ℕ). considered worked-forward (view (run .job)) (run .place .offset) (run .place .records) l (read-at l 0)) (sym held)
-      ∙ ap (λ (r : reader.Read). considered worked-forward (view (run .job)) (run .place .offset) (run .place .records) (take (begun .count) (begun .bytes)) r) (sym read)
+pub begins : (run : Run) (chunk out : List ℕ) (j : Job) {p : Passage} → p ≡ starting run (length chunk) → Along (run-of j p) chunk out j p out
+begins run chunk out j e =
+    rw e
+    (going (omega arith)
+    (subst (λ (n : ℕ). Going (run-of j (starting run (length chunk))) chunk out (run-of j (starting run (length chunk))) n 0 out) (none (length chunk))
+    (starts (run-of j (starting run (length chunk))) chunk out refl)))
+  where
+    none : (n : ℕ) → 0 ≡ n - n
+    none n = omega arith
 
-  made-as : run-byte run byte ≡ run-by run begun found
-  unfolding run-byte
-  made-as =
-      ap (λ (b : Bool). chosen b run (run-with run (held-with (run .held) byte))) goes ∙ ap (λ (h : Held). run-with run h) (sym with)
-      ∙ ap (λ (r : reader.Read). run-by run begun r) (sym read)
+module _ {run₀ : Run} {chunk out₀ : List ℕ} {j : Job} {p : Passage} {out : List ℕ} where
+  pub within : Along run₀ chunk out₀ j p out → p .left ≤ length chunk
+  within (going h g) = h
+  within (ended n l f) = omega arith
 
-  pub whole-taken : (r : code.Record) (c : cursors.Cursor) → found ≡ Whole r c
-      → Makes run byte (advanced (run .place .offset) (run .place .records) (c .at) (stepped worked-forward (view (run .job)) r)) (run-after run r (c .at))
-  unfolding considered
-  whole-taken r c e = record { taken = taken-as ∙ rw e refl; made = made-as ∙ rw e refl }
+  pub as-long : Along run₀ chunk out₀ j p out → length out ≡ length out₀
+  as-long (going h g) = g .long
+  as-long (ended n l f) = l
 
-  pub cut-taken : (n at : ℕ) → found ≡ Refused n at → n ≡ body-cut-off → Makes run byte (waits run begun) (waiting run begun)
-  unfolding considered
-  cut-taken n at e f = record { taken = taken-as ∙ rw (e, f) refl; made = made-as ∙ rw (e, f) refl }
+  pub inside : Along run₀ chunk out₀ j p out → p .wrote ≤ length out
+  inside (going h g) = let l = g .long in let r = g .room in omega arith
+  inside (ended n l f) = let r = f .room in omega arith
 
-  pub unknown-taken : (n at : ℕ) → found ≡ Refused n at → (n ≡ body-cut-off → ⊥)
-      → Makes run byte (record { next = stopped; printed = refusal-text n (run .place .offset) }) (refused-run run)
-  unfolding considered
-  unknown-taken n at e f = record {
-    taken = taken-as ∙ rw e (rw (ne-eqb n body-cut-off f) refl);
-    made = made-as ∙ rw e (rw (ne-eqb n body-cut-off f) refl);
-  }
+  pub still : Along run₀ chunk out₀ j p out → 0 < p .left → p .stopped ≡ false
+  still (going h g) m = g .goes
+  still (ended n l f) m = absurd (omega arith)
 
-  still-held : begun .count ≤ 17 → progress (waiting run begun) ≡ waits run begun .next
-  still-held h =
-      ap (λ (b : Bool). progress-by b (view (run .job)) (run .place .offset) (run .place .records) (held-of (begun .count) (begun .bytes))) goes
-      ∙ ap (λ (k : ℕ). running (view (run .job)) (run .place .offset) (run .place .records) (take k (begun .bytes))) (kept (begun .count) h)
+  pub passes : {j′ : Job} {p′ : Passage} {out′ : List ℕ} → Along run₀ chunk out₀ j p out → 0 < p .left → p .wrote + 128 ≤ length out
+      → Passing j p (getD chunk (length chunk - p .left) 0) out j′ p′ out′ → Along run₀ chunk out₀ j′ p′ out′
+  passes (ended n l f) m room t = absurd (omega arith)
+  passes {j′} {p′} {out′} (going h g) m room t = go (p′ .stopped) refl
+    where
+      near : length chunk - p .left < length chunk
+      near = omega arith
 
-  few-held : length (begun .bytes) ≡ 18 → begun .count ≤ 18 → length (take (begun .count) (begun .bytes)) ≤ 17 → begun .count ≤ 17
-  few-held l h f = let e = length-take-le (begun .count) (begun .bytes) (omega arith) in omega arith
+      after : (n k l : ℕ) → 0 < l → l ≤ n → k ≡ l - 1 → n - l + 1 ≡ n - k
+      after n k l m h e = omega arith
 
-  pub cut-waits : (n at : ℕ) → length (begun .bytes) ≡ 18 → begun .count ≤ 18 → found ≡ Refused n at → n ≡ body-cut-off → progress (waiting run begun) ≡ waits run begun .next
-  cut-waits n at l h e f = still-held (few-held l h (cut-held (take (begun .count) (begun .bytes)) at (sym read ∙ e ∙ ap (λ (n : ℕ). Refused n at) f)))
+      go : (b : Bool) → p′ .stopped ≡ b → Along run₀ chunk out₀ j′ p′ out′
+      go false e =
+          let left : p′ .left ≡ p .left - 1 = t .left-is ∙ ap (λ (b : Bool). chosen b 0 (p .left - 1)) e in
+          going (omega arith)
+          (subst (λ (n : ℕ). Going run₀ chunk out₀ (run-of j′ p′) n (p′ .wrote) out′) (after (length chunk) (p′ .left) (p .left) m h left)
+          (goes-on run₀ g near room (t .makes) (t .short) (t .end) (t .holds) (t .next) e))
+      go true e =
+          ended (t .left-is ∙ ap (λ (b : Bool). chosen b 0 (p .left - 1)) e) (same-long run₀ g near room (t .makes) (t .short) (t .end) (t .holds) (t .next))
+          (stops run₀ g near room (t .makes) (t .short) (t .end) (t .holds) (t .next) (length chunk) e refl)
 
-  pub never-ends : found ≡ End → ⊥
-  never-ends e = no-end (held-of (run .held .count) (run .held .bytes)) byte (ap (λ (l : List ℕ). read-at l 0) (sym held) ∙ sym read ∙ e)
+  pub ends : Along run₀ chunk out₀ j p out → (0 < p .left → length out < p .wrote + 128)
+      → Feeding run₀ chunk out₀ (record { run = run-of j p; used = length chunk - p .left; wrote = p .wrote }) out
+  ends (ended n l f) room = subst (λ (u : ℕ). Feeding run₀ chunk out₀ (record { run = run-of j p; used = u; wrote = p .wrote }) out) (all (length chunk) (p .left) n) f
+    where
+      all : (n k : ℕ) → k ≡ 0 → n ≡ n - k
+      all n k e = omega arith
+  ends (going h g) room = go (ltb 0 (p .left)) refl
+    where
+      go : (b : Bool) → ltb 0 (p .left) ≡ b → Feeding run₀ chunk out₀ (record { run = run-of j p; used = length chunk - p .left; wrote = p .wrote }) out
+      go true e = full run₀ g (room (ltb-true 0 (p .left) e))
+      go false e = done run₀ g (let l = ltb-false 0 (p .left) e in omega arith)
 
-pub handed-back : {run₀ : Run} {chunk out₀ out : List ℕ} {run : Run} {u w : ℕ} {r : feds.Fed} → (r .run ≡ run) × (r .used ≡ u) × (r .wrote ≡ w)
-    → Feeding run₀ chunk out₀ (record { run = run; used = u; wrote = w }) out → Feeding run₀ chunk out₀ r out
-handed-back e f = rw (e .0, e .1, e .2) f
+-- the run that comes back is that of the job and the passage, and the run that went in that of the start
+pub handed-back : (run : Run) {chunk out₀ out : List ℕ} {p : Passage} {run′ : Run} {u w : ℕ} {r : feds.Fed} → run .stopped ≡ false → p ≡ starting run (length chunk)
+    → (r .run ≡ run′) × (r .used ≡ u) × (r .wrote ≡ w) → Feeding (run-of (run .job) p) chunk out₀ (record { run = run′; used = u; wrote = w }) out → Feeding run chunk out₀ r out
+handed-back run {chunk} {out₀} {out} {r = r} e f h g =
+    subst (λ (s : Run). Feeding s chunk out₀ r out)
+    (ap (run-of (run .job)) f ∙ ap (λ (b : Bool). record { job = run .job; held = run .held; place = run .place; stopped = b }) (sym e)) (rw (h .0, h .1, h .2) g)
 
--- a byte that prints nothing
-pub nothing-written : (out : List ℕ) (wrote : ℕ) → out ≡ pasted wrote [] out
-nothing-written out wrote = paste-zero out wrote []
+-- ---- the measure: what is left of the chunk, and whether the corners are still to be laid out
+abbrev pub unlaid : Bool → ℕ
+unlaid true = 0
+unlaid false = 1
 
-pub nothing-counted : (wrote : ℕ) → wrote ≡ wrote + 0
-nothing-counted wrote = omega arith
+fewer : {k l : ℕ} (stops : Bool) → k ≡ chosen stops 0 (l - 1) → 0 < l → k < l
+fewer true e h = omega arith
+fewer false e h = omega arith
 
--- a line that was put behind what was written, by its text
-module _ {words : List ℕ} {l : Line} (s : Says words l) where
-  pub text-short : length words ≤ 128
-  text-short = rw (s .says) at (said-short l (s .short))
+-- ---- the loop's invariant: along with it, the corners are all there, and what is laid out of them is theirs
+pub record Turns (run₀ : Run) (chunk out₀ out : List ℕ) (j : Job) (p : Passage) (numbers : List ℤ) (laid-out : Bool) : Type 0 where
+  pub along : Along run₀ chunk out₀ j p out
+  pub long : length (j .corners) ≡ 1024
+  pub room : length numbers ≡ 2048
+  pub laid : laid-out ≡ true → take (2 * counted (j .count)) numbers ≡ flat (ring-of (j .count) (j .corners))
 
-  pub text-counted : {end : ℕ} (wrote : ℕ) → end ≡ wrote + length (said l) → end ≡ wrote + length words
-  text-counted wrote e = rw (s .says) at e
+no-truth : {A : Type 0} → false ≡ true → A
+no-truth e = absurd (let z : _≡_ {A = ℕ} 0 1 = cc in omega arith)
 
-  pub text-written : {out′ : List ℕ} (out : List ℕ) (wrote : ℕ) → out′ ≡ pasted wrote (said l) out → out′ ≡ pasted wrote words out
-  text-written out wrote e = rw (s .says) at e
+-- the length of an array of structs, from that of their values
+pub unmapped : {A B : Type 0} (f : A → B) (l : List A) {n : ℕ} → length (map f l) ≡ n → length l ≡ n
+unmapped f l e = sym (length-map l f) ∙ e
 
-pub refusing : (n : ℕ) (run : Run) (used : ℕ) (out : List ℕ) (wrote : ℕ) {end : ℕ} {l : Line} {r : feds.Fed} {out′ : List ℕ} → Says (refusal-text n (run .place .offset)) l
-    → end ≡ wrote + length (said l) → out′ ≡ pasted wrote (said l) out → (r .run ≡ refused-run run) × (r .used ≡ used) × (r .wrote ≡ end) → Refusing n run used out wrote r out′
-refusing n run used out wrote s e h r = record { short = text-short s; handed = (r .0, r .1, r .2 ∙ text-counted s wrote e); holds = text-written s out wrote h }
+-- no record makes the corners more or fewer
+left-long : (s : rules.Answer Step) (i : records.Record) (j : Job) → length (j .corners) ≡ 1024 → length (left s i j .corners) ≡ 1024
+left-long (rules.answered d) (record-case.Begin c) j e = e
+left-long (rules.answered d) (record-case.Corner X Y) j e = length-set (j .corners) (j .count) (record { x = X; y = Y }) ∙ e
+left-long (rules.answered d) record-case.Close j e = e
+left-long (rules.answered d) (record-case.Query X Y) j e = e
+left-long (rules.answered d) (record-case.Point c B L) j e = e
+left-long (refused n) i j e = e
+left-long (crossed-at pair) i j e = e
+
+-- a turn: a byte and room for any line are left, and the byte is asked
+module _ {run₀ : Run} {chunk out₀ out : List ℕ} {j : Job} {p : Passage} {numbers : List ℤ} {laid : Bool} (t : Turns run₀ chunk out₀ out j p numbers laid) (m : 0 < p .left)
+    (room : p .wrote + 128 ≤ length out) where
+  pub stands : Stands (j .phase) (j .count) laid numbers j
+  stands =
+      let all : Counts (j .phase) (j .count) j = record { phase-is = refl; count-is = refl; long = t .long } in
+      record { counts = all; laid = λ e. record { counts = all; laid = t .laid e } }
+
+  module _ {p′ : Passage} {out′ : List ℕ} (u : Turned p (getD chunk (length chunk - p .left) 0) (j .phase) (j .count) laid numbers out p′ out′) where
+    pub keeps : p′ .change ≡ Nothing → Turns run₀ chunk out₀ out′ j p′ numbers laid
+    keeps e = record { along = passes (t .along) m room (kept-as u e j stands); long = t .long; room = t .room; laid = t .laid }
+
+    pub kept-less : p′ .change ≡ Nothing → p′ .left < p .left
+    kept-less e = fewer (p′ .stopped) (kept-as u e j stands .left-is) m
+
+    pub corner-room : {X Y : ℤ} → p′ .change ≡ Store X Y → j .count < 1024
+    corner-room e = stored u e .0
+
+    pub stores : {X Y : ℤ} → p′ .change ≡ Store X Y → Turns run₀ chunk out₀ out′ (after-record (record-case.Corner X Y) j) p′ numbers false
+    stores {X} {Y} e = record {
+      along = passes (t .along) m room (stored u e .1 j (stands .counts));
+      long = length-set (j .corners) (j .count) (record { x = X; y = Y }) ∙ t .long;
+      room = t .room;
+      laid = no-truth;
+    }
+
+    pub stored-less : {X Y : ℤ} → p′ .change ≡ Store X Y → p′ .left < p .left
+    stored-less e = fewer (p′ .stopped) (stored u e .1 j (stands .counts) .left-is) m
+
+    pub lays-out : {laid-numbers : List ℤ} → p′ .change ≡ LayOut → length laid-numbers ≡ 2048
+        → take (2 * counted (j .count)) laid-numbers ≡ flat (ring-of (j .count) (j .corners)) → Turns run₀ chunk out₀ out′ j p′ laid-numbers true
+    lays-out {laid-numbers} e l f =
+        let h = unlaid-yet u e in
+        rw (h .1, h .2) (record { along = again (t .along); long = t .long; room = l; laid = λ g. f })
+      where
+        again : Along run₀ chunk out₀ j p out → Along run₀ chunk out₀ j (asking p LayOut) out
+        again (going h g) = going h g
+        again (ended n l f) = ended n l f
+
+    pub laid-less : p′ .change ≡ LayOut → 2 * p′ .left + 0 < 2 * p .left + unlaid laid
+    laid-less e = let h = unlaid-yet u e in rw (h .1, h .0) (omega arith)
+
+    pub asked-room : {i : records.Record} {size : ℕ} → p′ .change ≡ Take i size → (0 < p′ .left) × (p′ .wrote + 128 ≤ length out′)
+    asked-room e = let h = asked u e in rw (h .0, h .1) (m, room)
+
+    module _ {i : records.Record} {size : ℕ} {j′ : Job} {a : answers.Answer} {p″ : Passage} {out″ : List ℕ} (e : p′ .change ≡ Take i size)
+        (s : Stepping (stepped worked-forward (view j) i) i j (record { job = j′; answer = a }))
+        (w : Saying (printed-at a (p′ .place .offset)) p′ (answered-at p′ a size) out′ p″ out″) where
+      pub takes : Turns run₀ chunk out₀ out″ j′ p″ numbers false
+      takes = record {
+        along = passes (t .along) m room (answered u e s w);
+        long = ap (λ (k : Job). length (k .corners)) (s .leaves) ∙ left-long (stepped worked-forward (view j) i) i j (t .long);
+        room = t .room;
+        laid = no-truth;
+      }
+
+      pub taken-less : p″ .left < p .left
+      taken-less = fewer (p″ .stopped) (answered u e s w .left-is) m

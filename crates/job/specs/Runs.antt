@@ -23,10 +23,9 @@ use Rattle.job.specs.declared.run.Held.{Held}
 use Rattle.job.specs.declared.run.Place.{Place}
 use Rattle.job.specs.declared.run.Run.{Run}
 use Rattle.job.specs.declared.run.Fed.{Fed}
-use Rattle.job.specs.declared.run.Advanced.{Advanced}
 use Rattle.job_state.specs.Gathered.{chosen}
 use Rattle.job_state.specs.States.{view, stepped, new-job, left}
-use Rattle.job.specs.Machine.{Progress, Took, fed, used-in, finished, settled, held-of, progress-by}
+use Rattle.job.specs.Machine.{Progress, fed, used-in, finished, settled, held-of, progress-by}
 use Rattle.job_lines.specs.Printed.{refusal-text}
 
 abbrev pub refuses : answers.Answer → Bool
@@ -96,20 +95,6 @@ run-fed run [] = run
 run-fed run (byte ∷ bytes) = run-fed (run-byte run byte) bytes
 
 -- ---- the calls
--- one record: its line stands behind what was written, and is no longer than 128 bytes
-pub record Advancing (t : Took) (run′ : Run) (out : List ℕ) (wrote : ℕ) (r : Advanced) (out′ : List ℕ) : Type 0 where
-  pub short : length (t .printed) ≤ 128
-  pub end : r .wrote ≡ wrote + length (t .printed)
-  pub holds : out′ ≡ pasted wrote (t .printed) out
-  pub next : progress (r .run) ≡ t .next
-  pub run-is : r .run ≡ run′
-
--- a refusal: the run is stopped, and its line stands behind what was written
-pub record Refusing (n : ℕ) (run : Run) (used : ℕ) (out : List ℕ) (wrote : ℕ) (r : Fed) (out′ : List ℕ) : Type 0 where
-  pub short : length (refusal-text n (run .place .offset)) ≤ 128
-  pub handed : (r .run ≡ refused-run run) × (r .used ≡ used) × (r .wrote ≡ wrote + length (refusal-text n (run .place .offset)))
-  pub holds : out′ ≡ pasted wrote (refusal-text n (run .place .offset)) out
-
 -- a chunk: which of its bytes are taken, how far the run is then, how many bytes are written, what the buffer holds, and the run that comes back
 pub record Feeding (run : Run) (chunk out : List ℕ) (r : Fed) (out′ : List ℕ) : Type 0 where
   pub used : r .used ≡ used-in worked-forward (length out) (progress run) chunk

@@ -5,20 +5,22 @@ ghost use mathlib.Core.Bool.{false};
 ghost use mathlib.Core.List.{_++_, _∷_, []};
 ghost use Prim.Native.Nat.{_+_, _%_, _^_, _≤_};
 ghost use lib.ListN.{length, take};
-ghost use Rattle.projection.specs.Worked.{worked-forward};
 ghost use Rattle.records.specs.Reader.{read-at};
-ghost use Rattle.job_state.specs.States.{view, stepped};
-ghost use Rattle.job.specs.Machine.{advanced, settled, held-of};
+ghost use Rattle.job.specs.Machine.{settled, held-of};
 ghost use Rattle.job_lines.specs.Printed.{Says};
-ghost use Rattle.job.specs.Runs.{Advancing, Refusing, Feeding, Finishing, no-held, new-run, held-with, run-after, refuses, ending-by, last};
+ghost use Rattle.job.specs.Runs.{Feeding, Finishing, no-held, new-run, held-with, refuses, ending-by, last};
+ghost use Rattle.job.specs.Passages.{starting};
+use crate::in_place;
 use crate::line;
+use crate::passage::Change;
+use crate::passage::Passage;
 use crate::state::Answer;
+use crate::state::Corner;
 use crate::state::Job;
 use crate::state::Phase;
 use lines::Line;
 use records::Cursor;
 use records::Read;
-use records::Record;
 
 // The bytes so far of the record that is begun: the first `count`.
 pub struct Held {
@@ -46,13 +48,8 @@ pub struct Fed {
     pub wrote: usize,
 }
 
-struct Advanced {
-    run: Run,
-    wrote: usize,
-}
-
 impl Held {
-    fn none() -> Held
+    pub(crate) fn none() -> Held
         ensures { λ r. ⌜ r ≡ no-held ⌝ }
     {
         Held {
@@ -62,7 +59,7 @@ impl Held {
     }
 
     // One byte more.
-    fn with(mut self, byte: u8) -> Held
+    pub(crate) fn with(mut self, byte: u8) -> Held
         ensures { λ r. ⌜ (r .count ≤ 18) × (take (r .count) (r .bytes) ≡ held-of (self .count) (self .bytes) ++ (byte ∷ [])) × (length (r .bytes) ≡ 18) × (r ≡ held-with self byte) ⌝ }
     {
         let at = settled(self.count);
@@ -71,7 +68,7 @@ impl Held {
         self
     }
 
-    fn read(self) -> Read
+    pub(crate) fn read(self) -> Read
         requires { ⌜ self .count ≤ 18 ⌝ }
         ensures { λ r. ⌜ r ≡ read-at (take (self .count) (self .bytes)) 0 ⌝ }
     {
@@ -92,7 +89,7 @@ fn settled(count: usize) -> usize
 }
 
 impl Place {
-    fn after(self, size: usize) -> Place
+    pub(crate) fn after(self, size: usize) -> Place
         ensures { λ r. ⌜ (r .offset ≡ (self .offset + size) % 2 ^ 64) × (r .records ≡ (self .records + 1) % 2 ^ 64) ⌝ }
     {
         Place {
@@ -102,7 +99,7 @@ impl Place {
     }
 }
 
-fn refuses(answer: Answer) -> bool
+pub(crate) fn refuses(answer: Answer) -> bool
     ensures { λ r. ⌜ r ≡ refuses answer ⌝ }
 {
     match answer {
@@ -130,95 +127,74 @@ impl Run {
         }
     }
 
-    // One whole record of `size` bytes: the job after it, and its line behind what was written.
-    fn advance(self, item: Record, size: usize, out: &mut [u8], wrote: usize) -> Advanced
-        requires { ⌜ wrote + 128 ≤ length (now out) ⌝ }
-        ensures { λ r. ⌜ Advancing (advanced (self .place .offset) (self .place .records) size (stepped worked-forward (view (self .job)) item)) (run-after self item size) (now (out .entry)) wrote r (now (out .exit)) ⌝ }
-    {
-        let job = self.job;
-        let place = self.place;
-        let taken = job.take(item);
-        let answer = taken.answer;
-        let next = taken.job;
-        let end = line::answer_line(answer, place.offset).put(out, wrote);
-        Advanced {
-            run: Run {
-                job: next,
-                held: Held::none(),
-                place: place.after(size),
-                stopped: refuses(answer),
-            },
-            wrote: end,
-        }
-    }
-
     // Takes bytes of the chunk while `out` has room for any line, and writes their lines.
     pub fn feed(self, chunk: &[u8], out: &mut [u8]) -> Fed
         ensures { λ r. ⌜ Feeding self (now (chunk .entry)) (now (out .entry)) r (now (out .exit)) ⌝ }
     {
         if self.stopped {
-            return self.handed(chunk.len(), 0);
+            return Fed {
+                run: self,
+                used: chunk.len(),
+                wrote: 0,
+            };
         }
         self.take_bytes(chunk, out)
     }
 
+    // The job stays where it lies: what is asked of it is done in place, and only a record that begins or closes a field goes through the job's method. The corners
+    // are laid out for queries at the first query after they changed.
     fn take_bytes(self, chunk: &[u8], out: &mut [u8]) -> Fed
         requires { ⌜ self .stopped ≡ false ⌝ }
         ensures { λ r. ⌜ Feeding self (now (chunk .entry)) (now (out .entry)) r (now (out .exit)) ⌝ }
     {
-        let mut run = self;
-        let mut at: usize = 0;
-        let mut wrote: usize = 0;
-        while at < chunk.len() {
-            if out.len() - wrote < 128 {
-                return run.handed(at, wrote);
-            }
-            let held = run.held;
-            let begun = held.with(chunk[at]);
-            let found = begun.read();
-            at += 1;
-            match found {
-                Read::Whole(item, cursor) => {
-                    let size = cursor.at;
-                    let done = run.advance(item, size, out, wrote);
-                    let next = done.run;
-                    run = next;
-                    wrote = done.wrote;
-                    if run.stopped {
-                        return run.handed(chunk.len(), wrote);
-                    }
+        let mut job = self.job;
+        let mut passage = self.start(chunk.len());
+        let mut numbers = [0i64; 2048];
+        let mut laid_out = false;
+        while passage.goes(out.len()) {
+            let phase = job.phase;
+            let count = job.count;
+            passage = passage.turn(chunk, phase, count, laid_out, &numbers, out);
+            let change = passage.change;
+            match change {
+                Change::Nothing => continue,
+                Change::Store(x, y) => {
+                    job.corners[count] = Corner { x: x, y: y };
+                    job.count = count + 1;
+                    laid_out = false;
                     continue;
                 }
-                Read::Refused(n, _) => {
-                    if n == 12 {
-                        run.held = begun;
-                        continue;
-                    }
-                    return run.refuse(n, chunk.len(), out, wrote);
+                Change::LayOut => {
+                    let corners = job.corners;
+                    numbers = in_place::lay_out(corners, count);
+                    laid_out = true;
+                    continue;
                 }
-                Read::End => continue,
+                Change::Take(item, size) => {
+                    let taken = job.take(item);
+                    let answer = taken.answer;
+                    job = taken.job;
+                    laid_out = false;
+                    passage = passage.says(answer, size, out);
+                    continue;
+                }
             }
         }
-        run.handed(at, wrote)
+        passage.handed(job, chunk.len())
     }
 
-    // The refusal of the record that is begun, behind what was written.
-    fn refuse(mut self, n: u8, used: usize, out: &mut [u8], wrote: usize) -> Fed
-        requires { ⌜ wrote + 128 ≤ length (now out) ⌝ }
-        ensures { λ r. ⌜ Refusing n self used (now (out .entry)) wrote r (now (out .exit)) ⌝ }
+    fn start(self, length: usize) -> Passage
+        ensures { λ r. ⌜ r ≡ starting self length ⌝ }
     {
-        let end = line::refusal_line(n, self.place.offset).put(out, wrote);
-        self.stopped = true;
-        self.handed(used, end)
-    }
-
-    fn handed(self, used: usize, wrote: usize) -> Fed
-        ensures { λ r. ⌜ (r .run ≡ self) × (r .used ≡ used) × (r .wrote ≡ wrote) ⌝ }
-    {
-        Fed {
-            run: self,
-            used: used,
-            wrote: wrote,
+        let held = self.held;
+        let place = self.place;
+        Passage {
+            held: held,
+            place: place,
+            left: length,
+            wrote: 0,
+            stopped: false,
+            change: Change::Nothing,
         }
     }
 

@@ -1,6 +1,6 @@
 -- The answers to a job that stays where it lies, each of every job that has the numbers handed in. Assumes nothing.
-use mathlib.Core.Path.{_≡_, refl, sym, ap, _∙_}
-use mathlib.Core.Bool.{true, false}
+use mathlib.Core.Path.{_≡_, refl, sym, ap, _∙_, subst}
+use mathlib.Core.Bool.{Bool, true, false}
 use mathlib.Core.List.{List, [], _∷_}
 use Prim.Native.Nat.{ℕ, suc, _*_, _-_, _≤_, _<_}
 use native.Mathlib.Omega.{arith}
@@ -11,6 +11,7 @@ use Rattle.rules.specs.RingAnswers.{number-bad}
 use Rattle.projection.specs.Worked.{worked-forward}
 use Rattle.projection.specs.declared.ForwardAnswer as projected
 use Rattle.projection.specs.Answers.{forward-paper}
+use Rattle.records.specs.declared.Record as records
 use Rattle.records.specs.declared.Record.the-variants as record-case
 use Rattle.rings.specs.declared.NozzleAnswer as place
 use Rattle.rings.specs.Answers.{nozzle-paper, position-answer}
@@ -19,9 +20,11 @@ use Rattle.job_state.specs.declared.state.Phase.the-variants.{Idle, Gath
 use Rattle.job_state.specs.declared.state.Answer as answers
 use Rattle.job_state.specs.declared.state.Answer.the-variants.{Refused}
 use Rattle.job_state.specs.declared.state.Job.{Job}
+use Rattle.job_state.specs.declared.in_place.Reply as replies
+use Rattle.job_state.specs.declared.in_place.Reply.the-variants.{Say, Store}
 use Rattle.job_state.specs.Gathered.{at, ring-of, counted, flat, located}
 use Rattle.job_state.specs.States.{view, stepped, query-said, point-said, Stepping}
-use Rattle.job_state.specs.InPlace.{In, Counts, Lies, Answering, Cornering, Projecting}
+use Rattle.job_state.specs.InPlace.{In, Counts, Lies, Answering, Cornering, Projecting, Replied, Corner-replied}
 use Rattle.job_state.proofs.Flat.{ring-within, located-by-flat, part}
 use Rattle.job_state.proofs.Limits.{ring-length}
 use Rattle.job_state.proofs.Steps.{stepping-at, refusing, full, bad-x, bad-y, gathered, idle-corner, gathering-corner, accepted-corner, idle-query, gathering-query, accepted-query, idle-point, gathering-point, accepted-point, point-by}
@@ -113,3 +116,21 @@ module _ (c : ℕ) (B L : ℤ) where
 
   pub gathering-no-point : Answering (In Gathering) (record-case.Point c B L) (Refused 13)
   gathering-no-point = record { steps = λ j g. stepping-at (gathering-point worked-forward j c B L g) (refusing 13 j refl refl) }
+
+-- ---- replies
+module _ {p : phases.Phase} {n : ℕ} {X Y : ℤ} {refusal : ℕ} (h : Cornering p n X Y refusal) where
+  pub refuses-corner : 0 < refusal → Corner-replied p n X Y (Say (Refused refusal))
+  refuses-corner l = record { replied = λ laid-out numbers. record { promised = record { steps = λ j g. h .refuses l .steps j (g .counts) } } }
+
+  pub takes-corner : refusal ≡ 0 → Corner-replied p n X Y (Store X Y)
+  takes-corner e = record { replied = λ laid-out numbers. record { promised = (refl, subst (Cornering p n X Y) e h) } }
+
+module _ {i k : records.Record} {p : phases.Phase} {n : ℕ} {laid-out : Bool} {numbers : List ℤ} (e : i ≡ k) where
+  pub replied-as : {r : replies.Reply} → Replied k p n laid-out numbers r → Replied i p n laid-out numbers r
+  replied-as h = rw e h
+
+  pub says-query : {a : answers.Answer} → laid-out ≡ true → Answering (Lies p n numbers) k a → Replied i p n laid-out numbers (Say a)
+  says-query l h = rw e (record { promised = record { steps = λ j g. h .steps j (g .laid l) } })
+
+  pub says-point : {a : answers.Answer} → Answering (In p) k a → Replied i p n laid-out numbers (Say a)
+  says-point h = rw e (record { promised = record { steps = λ j g. h .steps j (g .counts .phase-is) } })

@@ -1,6 +1,7 @@
 -- What the functions of in_place promise. The job itself is not handed to them, only the few numbers of it that the answer rests on; so each says what a record
 -- makes of every job that has those numbers. Alike shows that this is what `Job::take` makes of it. Assumes nothing.
 use mathlib.Core.Path.{_≡_}
+use mathlib.Core.Bool.{Bool, true, false}
 use mathlib.Core.List.{List}
 use Prim.Native.Nat.{ℕ, _*_, _<_}
 use lib.IntN.{ℤ}
@@ -13,6 +14,8 @@ use Rattle.job_state.specs.declared.state.Phase as phases
 use Rattle.job_state.specs.declared.state.Answer as answers
 use Rattle.job_state.specs.declared.state.Answer.the-variants.{Silent, Refused}
 use Rattle.job_state.specs.declared.state.Job.{Job}
+use Rattle.job_state.specs.declared.in_place.Reply as replies
+use Rattle.job_state.specs.declared.in_place.Reply.the-variants.{Say, Store, LayOut, Take}
 use Rattle.job_state.specs.Gathered.{ring-of, counted, flat}
 use Rattle.job_state.specs.States.{view, stepped, after-record, Stepping}
 
@@ -43,3 +46,22 @@ pub record Cornering (p : phases.Phase) (n : ℕ) (X Y : ℤ) (refusal : ℕ) : 
 -- ---- kind 5, where no field is gathered
 pub record Projecting (c : ℕ) (B L : ℤ) (a : answers.Answer) : Type 0 where
   pub steps : (j : Job) → Stepping (pointed (view j) (worked-forward c B L)) (record-case.Point c B L) j (record { job = j; answer = a })
+
+-- ---- any record, where the corners are laid out or not yet
+pub record Stands (p : phases.Phase) (n : ℕ) (laid-out : Bool) (numbers : List ℤ) (j : Job) : Type 0 where
+  pub counts : Counts p n j
+  pub laid : laid-out ≡ true → Lies p n numbers j
+
+-- what a reply promises: the answer is the record's, and the job stays as it is; the record is the corner, which is stored in the place behind the others; the
+-- corners are not laid out yet; nothing is promised of a record that the job is to take
+abbrev pub Promised : records.Record → phases.Phase → ℕ → Bool → List ℤ → replies.Reply → Type 0
+Promised i p n laid-out numbers (Say a) = Answering (Stands p n laid-out numbers) i a
+Promised i p n laid-out numbers (Store X Y) = (i ≡ record-case.Corner X Y) × Cornering p n X Y 0
+Promised i p n laid-out numbers LayOut = laid-out ≡ false
+Promised i p n laid-out numbers Take = Unit {0}
+
+pub record Replied (i : records.Record) (p : phases.Phase) (n : ℕ) (laid-out : Bool) (numbers : List ℤ) (r : replies.Reply) : Type 0 where
+  pub promised : Promised i p n laid-out numbers r
+
+pub record Corner-replied (p : phases.Phase) (n : ℕ) (X Y : ℤ) (r : replies.Reply) : Type 0 where
+  pub replied : (laid-out : Bool) (numbers : List ℤ) → Replied (record-case.Corner X Y) p n laid-out numbers r
