@@ -2,7 +2,7 @@
 -- few numbers of it that the answer rests on; so what is promised holds of every job that has those numbers. Assumes nothing.
 use mathlib.Core.Path.{_≡_}
 use mathlib.Core.Bool.{Bool, true, false}
-use mathlib.Core.List.{List, []}
+use mathlib.Core.List.{List}
 use Prim.Native.Nat.{ℕ, _+_, _-_, _≤_, _<_}
 use lib.IntN.{ℤ}
 use lib.ListN.{length}
@@ -32,7 +32,7 @@ run-of j p = record { job = j; held = p .held; place = p .place; stopped = p .st
 
 -- ---- the passages that the calls make: a chunk of so many bytes is begun;
 abbrev pub starting : Run → ℕ → Passage
-starting run length = record { held = run .held; place = run .place; left = length; wrote = 0; stopped = false; change = Nothing }
+starting run n = record { held = run .held; place = run .place; left = n; wrote = 0; stopped = false; change = Nothing }
 
 -- a whole record of `size` bytes is answered (after a refusal nothing is left of the chunk);
 abbrev pub answered-at : Passage → answers.Answer → ℕ → Passage

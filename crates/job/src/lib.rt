@@ -3,5 +3,4 @@ mod passage;
 pub mod run;
 
 pub use job_lines::line;
-pub use job_state::in_place;
 pub use job_state::state;

@@ -6,8 +6,6 @@ ghost use lib.ListN.{length, getD};
 ghost use Rattle.job_state.specs.Gathered.{chosen};
 ghost use Rattle.job_lines.specs.Printed.{printed-at, refusal-text};
 ghost use Rattle.job.specs.Passages.{run-of, Saying, Turned, Followed, asking, answered-at, storing, awaiting, refused-at};
-use crate::in_place;
-use crate::in_place::Reply;
 use crate::line;
 use crate::run;
 use crate::run::Fed;
@@ -17,6 +15,8 @@ use crate::run::Run;
 use crate::state::Answer;
 use crate::state::Job;
 use crate::state::Phase;
+use job_state::in_place;
+use job_state::in_place::Reply;
 use records::Read;
 use records::Record;
 

@@ -10,7 +10,6 @@ ghost use Rattle.job.specs.Machine.{settled, held-of};
 ghost use Rattle.job_lines.specs.Printed.{Says};
 ghost use Rattle.job.specs.Runs.{Feeding, Finishing, no-held, new-run, held-with, refuses, ending-by, last};
 ghost use Rattle.job.specs.Passages.{starting};
-use crate::in_place;
 use crate::line;
 use crate::passage::Change;
 use crate::passage::Passage;
@@ -18,6 +17,7 @@ use crate::state::Answer;
 use crate::state::Corner;
 use crate::state::Job;
 use crate::state::Phase;
+use job_state::in_place;
 use lines::Line;
 use records::Cursor;
 use records::Read;
@@ -142,7 +142,7 @@ impl Run {
     }
 
     // The job stays where it lies: what is asked of it is done in place, and only a record that begins or closes a field goes through the job's method. The corners
-    // are laid out for queries at the first query after they changed.
+    // are laid out at the first query, and again at the first after they changed: a chunk without a query needs none of it.
     fn take_bytes(self, chunk: &[u8], out: &mut [u8]) -> Fed
         requires { ⌜ self .stopped ≡ false ⌝ }
         ensures { λ r. ⌜ Feeding self (now (chunk .entry)) (now (out .entry)) r (now (out .exit)) ⌝ }
