@@ -5,21 +5,31 @@ ghost use lib.ListN.{length, take, drop, getD};
 ghost use Rattle.rules.specs.FieldAnswers.{summed, cut};
 ghost use Rattle.rules.specs.Placing.{entangled-any, misplaced};
 ghost use Rattle.ring_corners.specs.Corners.{pairs, Accepted};
+ghost use Rattle.ring_boxes.specs.Boxes.{Boxed};
+ghost use Rattle.ring_placing.specs.Around.{Around};
 ghost use Rattle.fields.specs.Answers.{field-paper};
 ghost use Rattle.fields.specs.Placed.{as-field, passed-one, the-rest, Checked, Outer-boxed};
 use crate::FieldAnswer;
+use ring_boxes::Reach;
 use rings::CrossingAnswer;
 
-// Whether the ring meets one of the inner rings, lies inside one, or one inside it.
-fn entangled_any(counts: &[u32], corners: &[i64], ring: &[i64]) -> bool
-    requires { ⌜ Checked (now counts) (now corners) × Accepted (now ring) ⌝ }
+// Whether the ring meets one of the inner rings, lies inside one, or one inside it. `lows`, `highs` and `around` have the boxes of the ring.
+fn entangled_any(
+    counts: &[u32],
+    corners: &[i64],
+    ring: &[i64],
+    lows: &[i64],
+    highs: &[i64],
+    around: Reach,
+) -> bool
+    requires { ⌜ Checked (now counts) (now corners) × Accepted (now ring) × Boxed (pairs (now ring)) (pairs (now lows)) (pairs (now highs)) × Around (pairs (now ring)) around ⌝ }
     ensures { λ r. ⌜ r ≡ entangled-any (as-field (cut (now (counts .entry)) (now (corners .entry))) .inner-rings) (pairs (now (ring .entry))) ⌝ }
 {
     let mut at = 2 * (counts[0] as usize);
     let mut k = 1;
     while k < counts.len() {
         let end = at + 2 * (counts[k] as usize);
-        if ring_placing::entangled(&corners[at..end], ring) {
+        if ring_placing::entangled(&corners[at..end], ring, lows, highs, around) {
             return true;
         }
         at = end;
@@ -28,16 +38,55 @@ fn entangled_any(counts: &[u32], corners: &[i64], ring: &[i64]) -> bool
     false
 }
 
-// Whether the ring is badly placed among the rings. `lows` and `highs` have the boxes of the outer ring's runs of edges.
+// Whether the ring is badly placed among the rings. `lows` and `highs` have the boxes of the outer ring's runs of edges, `ring_lows`, `ring_highs` and `around` those of the ring.
+fn misplaced_by_boxes(
+    counts: &[u32],
+    corners: &[i64],
+    lows: &[i64],
+    highs: &[i64],
+    ring: &[i64],
+    ring_lows: &[i64],
+    ring_highs: &[i64],
+    around: Reach,
+) -> bool
+    requires { ⌜ Checked (now counts) (now corners) × Outer-boxed (now counts) (now corners) (now lows) (now highs) × Accepted (now ring) × Boxed (pairs (now ring)) (pairs (now «ring_lows»)) (pairs (now «ring_highs»)) × Around (pairs (now ring)) around ⌝ }
+    ensures { λ r. ⌜ r ≡ misplaced (as-field (cut (now (counts .entry)) (now (corners .entry)))) (pairs (now (ring .entry))) ⌝ }
+{
+    let end = 2 * (counts[0] as usize);
+    if ring_placing::not_inside(
+        &corners[0..end],
+        lows,
+        highs,
+        ring,
+        ring_lows,
+        ring_highs,
+        around,
+    ) {
+        return true;
+    }
+    entangled_any(counts, corners, ring, ring_lows, ring_highs, around)
+}
+
+// The same, with the boxes of the ring worked once for all the rings that it is held against.
 fn misplaced(counts: &[u32], corners: &[i64], lows: &[i64], highs: &[i64], ring: &[i64]) -> bool
     requires { ⌜ Checked (now counts) (now corners) × Outer-boxed (now counts) (now corners) (now lows) (now highs) × Accepted (now ring) ⌝ }
     ensures { λ r. ⌜ r ≡ misplaced (as-field (cut (now (counts .entry)) (now (corners .entry)))) (pairs (now (ring .entry))) ⌝ }
 {
-    let end = 2 * (counts[0] as usize);
-    if ring_placing::not_inside(&corners[0..end], lows, highs, ring) {
-        return true;
-    }
-    entangled_any(counts, corners, ring)
+    let mut ring_lows = [0i64; 128];
+    let mut ring_highs = [0i64; 128];
+    let last = ring.len() / 2 - 1;
+    ring_boxes::fill(ring, last, &mut ring_lows, &mut ring_highs);
+    let around = ring_boxes::box_of(ring, 0, last);
+    misplaced_by_boxes(
+        counts,
+        corners,
+        lows,
+        highs,
+        ring,
+        &ring_lows,
+        &ring_highs,
+        around,
+    )
 }
 
 // One inner ring more: 16, its own 6, 7, 8 and 9, and then 15.

@@ -1,3 +1,5 @@
--- What is proved for the contracts of ring_placing, which cite definitions of the rules and of the crates below alone.
+-- What the contracts of ring_placing cite beside the definitions of the rules and of the crates below, and what is proved of it.
+--   Around     a box of all of a ring
 --   Laws       laws; not needed to read the contracts
+pub mod Around
 pub mod Laws

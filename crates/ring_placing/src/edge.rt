@@ -8,6 +8,7 @@ ghost use Rattle.rules.specs.Crossing.{meets};
 ghost use Rattle.rules.specs.Placing.{meets-one};
 ghost use Rattle.rules.specs.RingAnswers.{smaller, larger};
 ghost use Rattle.ring_corners.specs.Corners.{corner, pairs, Near, Accepted};
+ghost use Rattle.ring_boxes.specs.Boxes.{Boxed};
 ghost use Rattle.ring_pairs.specs.Crossings.{away, BoxOf};
 use ring_corners::corners;
 use ring_pairs::meeting;
@@ -27,9 +28,11 @@ fn meets_touching(ring: &[i64], i: usize, j: usize, ax: i64, ay: i64, bx: i64, b
 }
 
 // Whether the edge a-b, whose box is from low to high, shares a point with an edge of the ring. The loop runs over the edges whose head is the next corner; the last
-// edge, which runs to the first corner, is tested beside it.
+// edge, which runs to the first corner, is tested beside it. `lows` and `highs` have the boxes of the ring's runs of edges, so that most edges are passed sixteen at a time.
 fn meets_by_box(
     ring: &[i64],
+    lows: &[i64],
+    highs: &[i64],
     ax: i64,
     ay: i64,
     bx: i64,
@@ -39,13 +42,13 @@ fn meets_by_box(
     low_y: i64,
     high_y: i64,
 ) -> bool
-    requires { ⌜ Accepted (now ring) × Near (corner bx by) (corner ax ay) × BoxOf (corner ax ay) (corner bx by) «low_x» «high_x» «low_y» «high_y» ⌝ }
+    requires { ⌜ Accepted (now ring) × Near (corner bx by) (corner ax ay) × BoxOf (corner ax ay) (corner bx by) «low_x» «high_x» «low_y» «high_y» × Boxed (pairs (now ring)) (pairs (now lows)) (pairs (now highs)) ⌝ }
     ensures { λ r. ⌜ r ≡ meets-one (corner ax ay to corner bx by) (edges (pairs (now (ring .entry)))) ⌝ }
 {
     let last = ring.len() / 2 - 1;
     let mut l = 0;
     while l < last {
-        l = search::first_near(ring, ring, 1, low_x, high_x, low_y, high_y, l, last);
+        l = search::next_near(ring, lows, highs, low_x, high_x, low_y, high_y, l, last);
         if l < last {
             if meets_touching(ring, l, l + 1, ax, ay, bx, by) {
                 return true;
@@ -59,9 +62,16 @@ fn meets_by_box(
     meets_touching(ring, last, 0, ax, ay, bx, by)
 }
 
-// Whether the edge from corner i to j of one ring shares a point with an edge of another.
-pub fn meets_ring(corners: &[i64], i: usize, j: usize, ring: &[i64]) -> bool
-    requires { ⌜ Accepted (now corners) × Accepted (now ring) × (i < length (pairs (now corners))) × (j < length (pairs (now corners))) ⌝ }
+// Whether the edge from corner i to j of one ring shares a point with an edge of another, whose runs have their boxes in `lows` and `highs`.
+pub fn meets_ring(
+    corners: &[i64],
+    i: usize,
+    j: usize,
+    ring: &[i64],
+    lows: &[i64],
+    highs: &[i64],
+) -> bool
+    requires { ⌜ Accepted (now corners) × Accepted (now ring) × (i < length (pairs (now corners))) × (j < length (pairs (now corners))) × Boxed (pairs (now ring)) (pairs (now lows)) (pairs (now highs)) ⌝ }
     ensures { λ r. ⌜ r ≡ meets-one (getD (pairs (now (corners .entry))) i origin to getD (pairs (now (corners .entry))) j origin) (edges (pairs (now (ring .entry)))) ⌝ }
 {
     let ax = corners::x_at(corners, i);
@@ -70,6 +80,8 @@ pub fn meets_ring(corners: &[i64], i: usize, j: usize, ring: &[i64]) -> bool
     let by = corners::y_at(corners, j);
     meets_by_box(
         ring,
+        lows,
+        highs,
         ax,
         ay,
         bx,

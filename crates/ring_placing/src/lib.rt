@@ -6,6 +6,8 @@ ghost use lib.ListN.{length};
 ghost use Rattle.rules.specs.Placing.{rings-meet, first-outside, entangled};
 ghost use Rattle.ring_corners.specs.Corners.{corner, pairs, Accepted};
 ghost use Rattle.ring_boxes.specs.Boxes.{Spans, Boxed};
+ghost use Rattle.ring_placing.specs.Around.{Around};
+use ring_boxes::Reach;
 use ring_corners::corners;
 use ring_pairs::search;
 use ring_turning::turning;
@@ -19,12 +21,14 @@ fn meet_in_box(
     lows: &[i64],
     highs: &[i64],
     second: &[i64],
+    second_lows: &[i64],
+    second_highs: &[i64],
     low_x: i64,
     high_x: i64,
     low_y: i64,
     high_y: i64,
 ) -> bool
-    requires { ⌜ Accepted (now first) × Accepted (now second) × Boxed (pairs (now first)) (pairs (now lows)) (pairs (now highs)) × Spans (pairs (now second)) 0 (length (pairs (now second)) - 1) (corner «low_x» «low_y») (corner «high_x» «high_y») ⌝ }
+    requires { ⌜ Accepted (now first) × Accepted (now second) × Boxed (pairs (now first)) (pairs (now lows)) (pairs (now highs)) × Spans (pairs (now second)) 0 (length (pairs (now second)) - 1) (corner «low_x» «low_y») (corner «high_x» «high_y») × Boxed (pairs (now second)) (pairs (now «second_lows»)) (pairs (now «second_highs»)) ⌝ }
     ensures { λ r. ⌜ r ≡ rings-meet (pairs (now (first .entry))) (pairs (now (second .entry))) ⌝ }
 {
     let last = first.len() / 2 - 1;
@@ -32,28 +36,39 @@ fn meet_in_box(
     while k < last {
         k = search::next_near(first, lows, highs, low_x, high_x, low_y, high_y, k, last);
         if k < last {
-            if edge::meets_ring(first, k, k + 1, second) {
+            if edge::meets_ring(first, k, k + 1, second, second_lows, second_highs) {
                 return true;
             }
             k += 1;
         }
     }
-    edge::meets_ring(first, last, 0, second)
+    if search::away_from(first, last, first, 0, low_x, high_x, low_y, high_y) {
+        return false;
+    }
+    edge::meets_ring(first, last, 0, second, second_lows, second_highs)
 }
 
 // Whether an edge of one ring shares a point with an edge of another. `lows` and `highs` have the boxes of the first ring's runs of edges, as ring_boxes fills them,
-// or are empty.
-pub fn meet(first: &[i64], lows: &[i64], highs: &[i64], second: &[i64]) -> bool
-    requires { ⌜ Accepted (now first) × Accepted (now second) × Boxed (pairs (now first)) (pairs (now lows)) (pairs (now highs)) ⌝ }
+// or are empty; so have the others of the second ring's. `around` is a box of all of the second ring, which its caller has for more than one other ring.
+pub fn meet(
+    first: &[i64],
+    lows: &[i64],
+    highs: &[i64],
+    second: &[i64],
+    second_lows: &[i64],
+    second_highs: &[i64],
+    around: Reach,
+) -> bool
+    requires { ⌜ Accepted (now first) × Accepted (now second) × Boxed (pairs (now first)) (pairs (now lows)) (pairs (now highs)) × Boxed (pairs (now second)) (pairs (now «second_lows»)) (pairs (now «second_highs»)) × Around (pairs (now second)) around ⌝ }
     ensures { λ r. ⌜ r ≡ rings-meet (pairs (now (first .entry))) (pairs (now (second .entry))) ⌝ }
 {
-    let last = second.len() / 2 - 1;
-    let around = ring_boxes::box_of(second, 0, last);
     meet_in_box(
         first,
         lows,
         highs,
         second,
+        second_lows,
+        second_highs,
         around.low_x,
         around.high_x,
         around.low_y,
@@ -79,23 +94,31 @@ fn outside(outer: &[i64], ring: &[i64]) -> bool
 }
 
 // Whether a ring is not strictly inside the outer one: the rings meet, or its first corner is outside.
-pub fn not_inside(outer: &[i64], lows: &[i64], highs: &[i64], ring: &[i64]) -> bool
-    requires { ⌜ Accepted (now outer) × Accepted (now ring) × Boxed (pairs (now outer)) (pairs (now lows)) (pairs (now highs)) ⌝ }
+pub fn not_inside(
+    outer: &[i64],
+    lows: &[i64],
+    highs: &[i64],
+    ring: &[i64],
+    ring_lows: &[i64],
+    ring_highs: &[i64],
+    around: Reach,
+) -> bool
+    requires { ⌜ Accepted (now outer) × Accepted (now ring) × Boxed (pairs (now outer)) (pairs (now lows)) (pairs (now highs)) × Boxed (pairs (now ring)) (pairs (now «ring_lows»)) (pairs (now «ring_highs»)) × Around (pairs (now ring)) around ⌝ }
     ensures { λ r. ⌜ r ≡ (rings-meet (pairs (now (outer .entry))) (pairs (now (ring .entry))) || first-outside (pairs (now (outer .entry))) (pairs (now (ring .entry)))) ⌝ }
 {
-    if meet(outer, lows, highs, ring) {
+    if meet(outer, lows, highs, ring, ring_lows, ring_highs, around) {
         return true;
     }
     outside(outer, ring)
 }
 
-// Whether two inner rings meet, or one lies inside the other.
-pub fn entangled(first: &[i64], second: &[i64]) -> bool
-    requires { ⌜ Accepted (now first) × Accepted (now second) ⌝ }
+// Whether two inner rings meet, or one lies inside the other. `lows`, `highs` and `around` have the boxes of the second.
+pub fn entangled(first: &[i64], second: &[i64], lows: &[i64], highs: &[i64], around: Reach) -> bool
+    requires { ⌜ Accepted (now first) × Accepted (now second) × Boxed (pairs (now second)) (pairs (now lows)) (pairs (now highs)) × Around (pairs (now second)) around ⌝ }
     ensures { λ r. ⌜ r ≡ entangled (pairs (now (first .entry))) (pairs (now (second .entry))) ⌝ }
 {
     let none = &first[0..0];
-    if meet(first, none, none, second) {
+    if meet(first, none, none, second, lows, highs, around) {
         return true;
     }
     if outside(first, second) {

@@ -32,7 +32,7 @@ part-none-end c = search needs
 
 meet-requires : tie.Need-meet-requires
 unfolding pairs
-meet-requires c κs = (c .before .pre .0, c .before .pre .1, no-boxes (pairs (c .before .args .first .now)) [])
+meet-requires c κs = (c .before .pre .0, c .before .pre .1, no-boxes (pairs (c .before .args .first .now)) [], c .before .pre .2, c .before .pre .3)
 
 returns : tie.Need-returns
 returns c = let t = c .before in sym (tangled-meeting (r t) (s t) (first-in (st t .pre .0)) (first-in (st t .pre .1)) (sym (t .meet .ensures) ∙ c .if1 .taken))

@@ -24,10 +24,10 @@ abbrev meets-edge-of : List Corner → Edge → Bool
 meets-edge-of s e = meets-one e (edges s)
 
 abbrev Inv-loop : tie.InvT-loop
-Inv-loop first lows highs second low-x high-x low-y high-y last k₀ k = Met-none (meets-edge-of (pairs second)) (pairs first) 0 last k
+Inv-loop first lows highs second second-lows second-highs low-x high-x low-y high-y last k₀ k = Met-none (meets-edge-of (pairs second)) (pairs first) 0 last k
 
 abbrev μ-loop : tie.MeasureT-loop
-μ-loop first lows highs second low-x high-x low-y high-y last k₀ k = last - k
+μ-loop first lows highs second second-lows second-highs low-x high-x low-y high-y last k₀ k = last - k
 
 module _ (st : tie.Start Inv-loop μ-loop) where
   abbrev r : List Corner
@@ -76,7 +76,7 @@ meets-ring-requires c κs =
     let st = c .before .before .before .before in
     let n = count st in
     let h = c .if1 .taken in
-    (st .pre .0, st .pre .1, omega arith, omega arith)
+    (st .pre .0, st .pre .1, omega arith, omega arith, st .pre .4)
 
 returns : tie.Need-returns Inv-loop μ-loop
 returns c =
@@ -103,12 +103,21 @@ loop-less-2 c = let h = c .if1 .left in let g = c .before .before .loop-test .ta
 loop-again-2 : tie.Need-loop-again-2 Inv-loop μ-loop
 loop-again-2 c = passed (c .before)
 
-meets-ring-requires-2 : tie.Need-meets-ring-requires-2 Inv-loop μ-loop
-meets-ring-requires-2 c κs = let st = c .before .before in let n = count st in (st .pre .0, st .pre .1, omega arith, omega arith)
+away-from-requires : tie.Need-away-from-requires Inv-loop μ-loop
+away-from-requires c κs = let n = count (c .before .before) in (omega arith, omega arith)
 
 returns-2 : tie.Need-returns-2 Inv-loop μ-loop
 returns-2 c =
-    let t = c .before in
+    let t = c .before .before in
+    let st = t .before .before in
+    sym (told st ∙ found-last (t .before .loop .inv) (count st) (t .loop-test .left) ∙ unmet st _ _ (sym (c .before .away-from .ensures) ∙ c .if3 .taken))
+
+meets-ring-requires-2 : tie.Need-meets-ring-requires-2 Inv-loop μ-loop
+meets-ring-requires-2 c κs = let st = c .before .before .before .before in let n = count st in (st .pre .0, st .pre .1, omega arith, omega arith, st .pre .4)
+
+returns-3 : tie.Need-returns-3 Inv-loop μ-loop
+returns-3 c =
+    let t = c .before .before .before in
     let st = t .before .before in
     c .meets-ring2 .ensures ∙ sym (told st ∙ found-last (t .before .loop .inv) (count st) (t .loop-test .left))
 
@@ -129,5 +138,7 @@ meet-in-box-spec =
     loop-again
     loop-less-2
     loop-again-2
+    away-from-requires
+    returns-2
     meets-ring-requires-2
-    returns-2)
+    returns-3)

@@ -13,10 +13,10 @@ use Rattle.fields.proofs.placing.entangled_any.Statement.{statement}
 use Rattle.fields.proofs.placing.entangled_any.Tie as tie
 
 abbrev Inv-loop : tie.InvT-loop
-Inv-loop counts corners ring at₀ k₀ at k = Tangling counts corners (pairs ring) at k
+Inv-loop counts corners ring lows highs around at₀ k₀ at k = Tangling counts corners (pairs ring) at k
 
 abbrev μ-loop : tie.MeasureT-loop
-μ-loop counts corners ring at₀ k₀ at k = length counts - k
+μ-loop counts corners ring lows highs around at₀ k₀ at k = length counts - k
 
 -- ring k, as it was held against the ring
 module _ (c : tie.After-entangled Inv-loop μ-loop) where
@@ -92,6 +92,8 @@ entangled-requires c κs =
       subst (λ (m : ℕ). Accepted (take m (drop (at .loop .at) corners))) (sym (less-start (at .loop .at) (2 * getD counts (at .loop .k) 0)))
           (tangling-accepted counts corners (pairs (st .args .ring .now)) (st .pre .0) (at .loop .inv) (c .before .before .loop-test .taken)),
       st .pre .1,
+      st .pre .2,
+      st .pre .3,
     )
 
 returns : tie.Need-returns Inv-loop μ-loop

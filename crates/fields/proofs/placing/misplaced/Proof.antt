@@ -1,87 +1,42 @@
--- The outer ring, and then the inner ones. Assumes nothing.
-use mathlib.Core.Path.{_≡_, sym, _∙_, ap, subst}
-use mathlib.Core.Bool.{_||_}
-use mathlib.Core.List.{List}
-use Prim.Native.Nat.{ℕ, _*_, _-_}
-use native.Mathlib.Omega.{arith}
-use lib.IntN.{ℤ}
-use lib.ListN.{take, getD}
-use Rattle.rules.specs.Placing.{rings-meet, first-outside}
-use Rattle.ring_corners.specs.Corners.{pairs, Accepted}
-use Rattle.ring_boxes.specs.Boxes.{Boxed}
-use Rattle.fields.specs.Laws.Cut.{first-inside, less-none}
-use Rattle.fields.specs.Laws.Tangled.{first-ring, misplaced-outer, misplaced-inner}
+-- The boxes are those of the ring. Assumes nothing.
+use mathlib.Core.Path.{sym}
+use Rattle.ring_corners.specs.Laws.Flat.{half}
 use borrow.Author.Needs.{needs}
 use Rattle.fields.proofs.placing.misplaced.Statement.{statement}
 use Rattle.fields.proofs.placing.misplaced.Tie as tie
 
--- the outer ring's numbers
-module _ (st : tie.Start) where
-  abbrev counts : List ℕ
-  counts = st .args .counts .now
+sub-last : tie.Need-sub-last
+sub-last c = search needs
 
-  abbrev corners : List ℤ
-  corners = st .args .corners .now
+fill-requires : tie.Need-fill-requires
+fill-requires c κs = search needs
 
-  part : take (2 * getD counts 0 0 - 0) corners ≡ take (2 * getD counts 0 0) corners
-  part = ap (λ (m : ℕ). take m corners) (less-none (2 * getD counts 0 0))
+box-of-requires : tie.Need-box-of-requires
+box-of-requires c κs = search needs
 
-shared-slice-read-end : tie.Need-shared-slice-read-end
-shared-slice-read-end c = search needs
+slice-aggregate-misplaced-by-boxes : tie.Need-slice-aggregate-misplaced-by-boxes
+slice-aggregate-misplaced-by-boxes c = search needs
 
-cast-end : tie.Need-cast-end
-cast-end c = omega (arith, c .shared-slice-known2 .given 0)
+slice-aggregate-misplaced-by-boxes-2 : tie.Need-slice-aggregate-misplaced-by-boxes-2
+slice-aggregate-misplaced-by-boxes-2 c = search needs
 
-mul-end : tie.Need-mul-end
-mul-end c = omega (arith, c .shared-slice-known2 .given 0)
-
-sub-not-inside : tie.Need-sub-not-inside
-sub-not-inside c = search needs
-
-part-not-inside-start : tie.Need-part-not-inside-start
-part-not-inside-start c = search needs
-
-part-not-inside-end : tie.Need-part-not-inside-end
-part-not-inside-end c = let t = c .before .before in first-inside (counts t) (corners t) (t .pre .0 .some) (t .pre .0 .even)
-
-not-inside-requires : tie.Need-not-inside-requires
-not-inside-requires c κs =
-    let t = c .before .before .before in
-    let e = first-ring (counts t) (corners t) (t .pre .0 .some) ∙ sym (part t) in (
-      subst Accepted e (t .pre .0 .good 0 (t .pre .0 .some)),
-      t .pre .2,
-      subst (λ (l : List ℤ). Boxed (pairs l) (pairs (t .args .lows .now)) (pairs (t .args .highs .now))) e (t .pre .1),
-    )
+misplaced-by-boxes-requires : tie.Need-misplaced-by-boxes-requires
+misplaced-by-boxes-requires c κs =
+    let b = c .before .before in
+    let p = b .before .before .before .before .before .pre in
+    (p .0, p .1, p .2, b .before .fill .ensures .0, rw (sym (half (p .2))) (b .box-of .ensures))
 
 returns : tie.Need-returns
-returns c =
-    let t = c .before .before .before .before .before in
-    let s = pairs (t .args .ring .now) in
-    misplaced-outer (counts t) (corners t) s (t .pre .0 .some)
-    (sym (c .if1 .taken) ∙ c .before .not-inside .ensures ∙ ap (λ (l : List ℤ). rings-meet (pairs l) s || first-outside (pairs l) s) (part t))
-
-entangled-any-requires : tie.Need-entangled-any-requires
-entangled-any-requires c κs = search needs
-
-returns-2 : tie.Need-returns-2
-returns-2 c =
-    let t = c .before .before .before .before .before .before in
-    let s = pairs (t .args .ring .now) in
-    c .entangled-any .ensures
-    ∙ misplaced-inner (counts t) (corners t) s (t .pre .0 .some)
-    (sym (c .before .if1 .left) ∙ c .before .before .not-inside .ensures ∙ ap (λ (l : List ℤ). rings-meet (pairs l) s || first-outside (pairs l) s) (part t))
+returns c = search needs
 
 pub misplaced-spec : {M : Type 1} → statement M
 misplaced-spec =
     tie.close
     (tie.spec
-    shared-slice-read-end
-    cast-end
-    mul-end
-    sub-not-inside
-    part-not-inside-start
-    part-not-inside-end
-    not-inside-requires
-    returns
-    entangled-any-requires
-    returns-2)
+    sub-last
+    fill-requires
+    box-of-requires
+    slice-aggregate-misplaced-by-boxes
+    slice-aggregate-misplaced-by-boxes-2
+    misplaced-by-boxes-requires
+    returns)

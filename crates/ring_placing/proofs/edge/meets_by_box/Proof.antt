@@ -22,10 +22,10 @@ use Rattle.ring_placing.proofs.edge.meets_by_box.Statement.{statement}
 use Rattle.ring_placing.proofs.edge.meets_by_box.Tie as tie
 
 abbrev Inv-loop : tie.InvT-loop
-Inv-loop ring ax ay bx by low-x high-x low-y high-y last l₀ l = Met-none (meets (corner (toZ w64 ax) (toZ w64 ay) to corner (toZ w64 bx) (toZ w64 by))) (pairs ring) 0 last l
+Inv-loop ring lows highs ax ay bx by low-x high-x low-y high-y last l₀ l = Met-none (meets (corner (toZ w64 ax) (toZ w64 ay) to corner (toZ w64 bx) (toZ w64 by))) (pairs ring) 0 last l
 
 abbrev μ-loop : tie.MeasureT-loop
-μ-loop ring ax ay bx by low-x high-x low-y high-y last l₀ l = last - l
+μ-loop ring lows highs ax ay bx by low-x high-x low-y high-y last l₀ l = last - l
 
 -- the edge and its box as a call hands them on
 module _ (st : tie.Start Inv-loop μ-loop) where
@@ -55,9 +55,9 @@ module _ (st : tie.Start Inv-loop μ-loop) where
   told = rw (raw-is (st .fits .ax) (st .fits .ay), raw-is (st .fits .bx) (st .fits .by))
 
 -- as far as the next edge that is near
-passed : (c : tie.After-first-near Inv-loop μ-loop)
-    → Met-none (meets (a (c .before .before .before) to b (c .before .before .before))) (r (c .before .before .before)) 0 (length (c .before .before .before .args .ring .now) / 2 - 1) (c .first-near .result)
-passed c = skip-on (c .before .before .loop .inv) (unmet (box (c .before .before .before))) (c .first-near .ensures .passed)
+passed : (c : tie.After-next-near Inv-loop μ-loop)
+    → Met-none (meets (a (c .before .before .before) to b (c .before .before .before))) (r (c .before .before .before)) 0 (length (c .before .before .before .args .ring .now) / 2 - 1) (c .next-near .result)
+passed c = skip-on (c .before .before .loop .inv) (unmet (box (c .before .before .before))) (c .next-near .ensures .passed)
 
 sub-last : tie.Need-sub-last Inv-loop μ-loop
 sub-last c = let e = half (c .pre .0) in let h = first-in (c .pre .0) in omega arith
@@ -65,12 +65,11 @@ sub-last c = let e = half (c .pre .0) in let h = first-in (c .pre .0) in omega a
 loop-holds : tie.Need-loop-holds Inv-loop μ-loop
 loop-holds c = met-start (meets (a c to b c)) (r c) 0 _ (omega arith)
 
-first-near-requires : tie.Need-first-near-requires Inv-loop μ-loop
-first-near-requires c κs =
+next-near-requires : tie.Need-next-near-requires Inv-loop μ-loop
+next-near-requires c κs =
     let st = c .before .before in
     let n = count st in
-    let m = st .pre .0 .at-most in
-    (c .before .loop .inv .high, omega arith, omega arith, omega arith)
+    (st .pre .3, c .before .loop .inv .high, omega arith, st .pre .0 .at-most)
 
 add-meets-touching : tie.Need-add-meets-touching Inv-loop μ-loop
 add-meets-touching c = let st = c .before .before .before .before in let n = count st in let m = st .pre .0 .at-most in let h = c .if1 .taken in omega arith
@@ -80,7 +79,7 @@ meets-touching-requires c κs =
     let st = c .before .before .before .before in
     let n = count st in
     let h = c .if1 .taken in
-    (st .pre .0, omega arith, omega arith, near st, touches st _ _ (c .before .first-near .ensures .near h))
+    (st .pre .0, omega arith, omega arith, near st, touches st _ _ (c .before .next-near .ensures .near h))
 
 returns : tie.Need-returns Inv-loop μ-loop
 returns c =
@@ -95,7 +94,7 @@ loop-less : tie.Need-loop-less Inv-loop μ-loop
 loop-less c =
     let t = c .before .before in
     let h = t .if1 .taken in
-    let g = t .before .first-near .ensures .passed .low in
+    let g = t .before .next-near .ensures .passed .low in
     omega arith
 
 loop-again : tie.Need-loop-again Inv-loop μ-loop
@@ -136,7 +135,7 @@ meets-by-box-spec =
     μ-loop
     sub-last
     loop-holds
-    first-near-requires
+    next-near-requires
     add-meets-touching
     meets-touching-requires
     returns

@@ -68,7 +68,7 @@ meets-by-box-requires : tie.Need-meets-by-box-requires
 meets-by-box-requires c κs =
     let e = ends c in
     let p = st e .pre in
-    (p .1, rw (at-i e, at-j e) (p .0 .near (st e .args .j) (st e .args .i) (p .3) (p .2)), box c)
+    (p .1, rw (at-i e, at-j e) (p .0 .near (st e .args .j) (st e .args .i) (p .3) (p .2)), box c, p .4)
 
 returns : tie.Need-returns
 returns c = let e = ends (c .before) in rw (at-i e, at-j e) at (c .meets-by-box .ensures)
