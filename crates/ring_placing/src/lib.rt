@@ -6,9 +6,10 @@ ghost use lib.ListN.{length};
 ghost use Rattle.rules.specs.Placing.{rings-meet, first-outside, entangled};
 ghost use Rattle.ring_corners.specs.Corners.{corner, pairs, Accepted};
 ghost use Rattle.ring_boxes.specs.Boxes.{Spans, Boxed};
-ghost use Rattle.ring_placing.specs.Around.{Around};
+ghost use Rattle.ring_placing.specs.Around.{Around, Apart};
 use ring_boxes::Reach;
 use ring_corners::corners;
+use ring_pairs::meeting;
 use ring_pairs::search;
 use ring_turning::turning;
 
@@ -112,8 +113,24 @@ pub fn not_inside(
     outside(outer, ring)
 }
 
-// Whether two inner rings meet, or one lies inside the other. `lows`, `highs` and `around` have the boxes of the second.
-pub fn entangled(first: &[i64], second: &[i64], lows: &[i64], highs: &[i64], around: Reach) -> bool
+// Whether two boxes have no point in common.
+fn apart(one: Reach, other: Reach) -> bool
+    ensures { λ r. ⌜ r ≡ Apart one other ⌝ }
+{
+    if meeting::beyond(one.low_x, one.high_x, other.low_x, other.high_x) {
+        return true;
+    }
+    meeting::beyond(one.low_y, one.high_y, other.low_y, other.high_y)
+}
+
+// Whether two inner rings whose boxes touch meet, or one lies inside the other.
+fn entangled_touching(
+    first: &[i64],
+    second: &[i64],
+    lows: &[i64],
+    highs: &[i64],
+    around: Reach,
+) -> bool
     requires { ⌜ Accepted (now first) × Accepted (now second) × Boxed (pairs (now second)) (pairs (now lows)) (pairs (now highs)) × Around (pairs (now second)) around ⌝ }
     ensures { λ r. ⌜ r ≡ entangled (pairs (now (first .entry))) (pairs (now (second .entry))) ⌝ }
 {
@@ -128,4 +145,18 @@ pub fn entangled(first: &[i64], second: &[i64], lows: &[i64], highs: &[i64], aro
         return true;
     }
     true
+}
+
+// Whether two inner rings meet, or one lies inside the other. `lows`, `highs` and `around` have the boxes of the second. Most ponds of a field lie apart: of two whose boxes
+// do not touch no edge is tested and no turning number is asked.
+pub fn entangled(first: &[i64], second: &[i64], lows: &[i64], highs: &[i64], around: Reach) -> bool
+    requires { ⌜ Accepted (now first) × Accepted (now second) × Boxed (pairs (now second)) (pairs (now lows)) (pairs (now highs)) × Around (pairs (now second)) around ⌝ }
+    ensures { λ r. ⌜ r ≡ entangled (pairs (now (first .entry))) (pairs (now (second .entry))) ⌝ }
+{
+    let last = first.len() / 2 - 1;
+    let own = ring_boxes::box_of(first, 0, last);
+    if apart(around, own) {
+        return false;
+    }
+    entangled_touching(first, second, lows, highs, around)
 }

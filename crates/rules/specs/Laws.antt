@@ -8,6 +8,7 @@
 -- Job: no bound on recursion is felt; the job record by record; decimal digits; signed numbers.
 -- Tried: what the definitions compute to.
 -- Signs, Sums, Lines, SameTurning, Demand: demand 3. Numbers: P1 to P12. Edges: edge k. Meeting, Folding, Pairs: the crossing test answers by the rule.
+-- Outside: a point beyond all corners of a ring has turning number 0 there.
 -- Looked: the pairs of edges in their order, how many there are, and the place of each.
 pub mod Codes
 pub mod Checks
@@ -27,6 +28,7 @@ pub mod Sums
 pub mod Lines
 pub mod SameTurning
 pub mod Edges
+pub mod Outside
 pub mod Meeting
 pub mod Folding
 pub mod OnEdge

@@ -1,76 +1,42 @@
--- The rings meet, or else the first corner of either tells. Assumes nothing.
+-- By the boxes, or else by the edges and the first corners. Assumes nothing.
 use mathlib.Core.Path.{sym, _∙_}
-use mathlib.Core.List.{List, []}
-use Rattle.rules.specs.Rings.{Corner}
 use Rattle.ring_corners.specs.Corners.{pairs}
-use Rattle.ring_corners.specs.Laws.Flat.{first-in}
-use Rattle.ring_boxes.specs.Laws.Filled.{no-boxes}
-use Rattle.ring_placing.specs.Laws.Placing.{tangled-meeting, tangled-inside, tangled-around, not-tangled}
+use Rattle.ring_corners.specs.Laws.Flat.{first-in, half}
+use Rattle.ring_placing.specs.Laws.Apart.{apart-not-tangled}
 use borrow.Author.Needs.{needs}
 use Rattle.ring_placing.proofs.entangled.Statement.{statement}
 use Rattle.ring_placing.proofs.entangled.Tie as tie
 
--- what the calls told, by the two rings
-module _ (t : tie.After-meet) where
-  abbrev st : tie.Start
-  st = t .before .before
+sub-last : tie.Need-sub-last
+sub-last c = search needs
 
-  abbrev r : List Corner
-  r = pairs (st .args .first .now)
+box-of-requires : tie.Need-box-of-requires
+box-of-requires c κs = search needs
 
-  abbrev s : List Corner
-  s = pairs (st .args .second .now)
-
-sub-none : tie.Need-sub-none
-sub-none c = search needs
-
-part-none-start : tie.Need-part-none-start
-part-none-start c = search needs
-
-part-none-end : tie.Need-part-none-end
-part-none-end c = search needs
-
-meet-requires : tie.Need-meet-requires
-unfolding pairs
-meet-requires c κs = (c .before .pre .0, c .before .pre .1, no-boxes (pairs (c .before .args .first .now)) [], c .before .pre .2, c .before .pre .3)
+apart-requires : tie.Need-apart-requires
+apart-requires c κs = search needs
 
 returns : tie.Need-returns
-returns c = let t = c .before in sym (tangled-meeting (r t) (s t) (first-in (st t .pre .0)) (first-in (st t .pre .1)) (sym (t .meet .ensures) ∙ c .if1 .taken))
+returns c =
+    let b = c .before .before in
+    let st = b .before in
+    let p = st .pre in
+    sym (apart-not-tangled (pairs (st .args .first .now)) (pairs (st .args .second .now)) (b .box-of .result) (st .args .around) (first-in (p .0)) (first-in (p .1))
+    (rw (sym (half (p .0))) (b .box-of .ensures)) (p .3) (sym (c .before .apart .ensures) ∙ c .if1 .taken))
 
-outside-requires : tie.Need-outside-requires
-outside-requires c κs = search needs
-
-outside-requires-2 : tie.Need-outside-requires-2
-outside-requires-2 c κs = search needs
+entangled-touching-requires : tie.Need-entangled-touching-requires
+entangled-touching-requires c κs = search needs
 
 returns-2 : tie.Need-returns-2
-returns-2 c =
-    let o = c .before .before in
-    let t = o .before .before .before in
-    sym (not-tangled (r t) (s t) (first-in (st t .pre .0)) (first-in (st t .pre .1)) (sym (t .meet .ensures) ∙ o .before .before .if1 .left) (sym (o .before .outside .ensures) ∙ o .if2 .taken) (sym (c .before .outside2 .ensures) ∙ c .if3 .taken))
-
-returns-3 : tie.Need-returns-3
-returns-3 c =
-    let o = c .before .before in
-    let t = o .before .before .before in
-    sym (tangled-around (r t) (s t) (first-in (st t .pre .0)) (first-in (st t .pre .1)) (sym (t .meet .ensures) ∙ o .before .before .if1 .left) (sym (o .before .outside .ensures) ∙ o .if2 .taken) (sym (c .before .outside2 .ensures) ∙ c .if3 .left))
-
-returns-4 : tie.Need-returns-4
-returns-4 c =
-    let t = c .before .before .before in
-    sym (tangled-inside (r t) (s t) (first-in (st t .pre .0)) (first-in (st t .pre .1)) (sym (t .meet .ensures) ∙ c .before .before .if1 .left) (sym (c .before .outside .ensures) ∙ c .if2 .left))
+returns-2 c = search needs
 
 pub entangled-spec : {M : Type 1} → statement M
 entangled-spec =
     tie.close
     (tie.spec
-    sub-none
-    part-none-start
-    part-none-end
-    meet-requires
+    sub-last
+    box-of-requires
+    apart-requires
     returns
-    outside-requires
-    outside-requires-2
-    returns-2
-    returns-3
-    returns-4)
+    entangled-touching-requires
+    returns-2)

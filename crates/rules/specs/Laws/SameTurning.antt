@@ -25,7 +25,7 @@ yes-not : (b : Bool) → T (not (not b)) → T b
 yes-not true t = tt
 yes-not false t = t
 
-le-is : (x y : ℤ) → leZ x y ≡ not (ltZ y x)
+pub le-is : (x y : ℤ) → leZ x y ≡ not (ltZ y x)
 le-is x y = agree (leZ x y) (not (ltZ y x))
     (λ h n. let k : y <ℤ x = ltZ-yes (yes-not (ltZ y x) n) in let l : x ≤ℤ y = leZ-yes h in clashℤ k l)
     (λ n h. let k : x ≤ℤ y = ltZ-no h in T-not (leZ x y) n (k .le))
