@@ -11,9 +11,9 @@ use ring_boxes::Reach;
 use ring_corners::corners;
 use ring_pairs::meeting;
 use ring_pairs::search;
-use ring_turning::turning;
 
 mod edge;
+mod turned;
 
 // Whether an edge of one ring shares a point with an edge of another, all of whose corners lie in the box from low to high. An edge of the first whose box is away
 // from that one meets none, and most are passed by the box of their run; the last edge, which is in no run, is tested beside the loop.
@@ -77,18 +77,19 @@ pub fn meet(
     )
 }
 
-// Whether the first corner of a ring is outside another ring: its turning number there is 0. Of either sign it is inside, whichever way that ring runs.
-fn outside(outer: &[i64], ring: &[i64]) -> bool
-    requires { ⌜ Accepted (now outer) × Accepted (now ring) ⌝ }
+// Whether the first corner of a ring is outside another ring: its turning number there is 0. Of either sign it is inside, whichever way that ring runs. `lows` and `highs` have
+// the boxes of that other ring's runs of edges, or are empty.
+fn outside(outer: &[i64], lows: &[i64], highs: &[i64], ring: &[i64]) -> bool
+    requires { ⌜ Accepted (now outer) × Accepted (now ring) × Boxed (pairs (now outer)) (pairs (now lows)) (pairs (now highs)) ⌝ }
     ensures { λ r. ⌜ r ≡ first-outside (pairs (now (outer .entry))) (pairs (now (ring .entry))) ⌝ }
 {
     let x = corners::x_at(ring, 0);
     let y = corners::y_at(ring, 0);
-    let turned = turning::number(outer, x, y);
-    if 0 < turned {
+    let number = turned::number_by_runs(outer, lows, highs, x, y);
+    if 0 < number {
         return false;
     }
-    if turned < 0 {
+    if number < 0 {
         return false;
     }
     true
@@ -110,7 +111,7 @@ pub fn not_inside(
     if meet(outer, lows, highs, ring, ring_lows, ring_highs, around) {
         return true;
     }
-    outside(outer, ring)
+    outside(outer, lows, highs, ring)
 }
 
 // Whether two boxes have no point in common.
@@ -138,8 +139,8 @@ fn entangled_touching(
     if meet(first, none, none, second, lows, highs, around) {
         return true;
     }
-    if outside(first, second) {
-        if outside(second, first) {
+    if outside(first, none, none, second) {
+        if outside(second, lows, highs, first) {
             return false;
         }
         return true;

@@ -47,7 +47,7 @@ fn edge_turn(ax: i64, ay: i64, bx: i64, by: i64, px: i64, py: i64) -> i64
 }
 
 // What the edge from corner i to corner j adds at p.
-fn turn_at(corners: &[i64], i: usize, j: usize, px: i64, py: i64) -> i64
+pub fn turn_at(corners: &[i64], i: usize, j: usize, px: i64, py: i64) -> i64
     requires { ⌜ Accepted (now corners) × (i < length (pairs (now corners))) × (j < length (pairs (now corners))) ⌝ }
     ensures { λ r. ⌜ r ≡ turn (corner px py) (getD (pairs (now (corners .entry))) i origin to getD (pairs (now (corners .entry))) j origin) ⌝ }
 {

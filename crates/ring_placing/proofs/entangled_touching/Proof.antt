@@ -37,11 +37,14 @@ meet-requires c κs = (c .before .pre .0, c .before .pre .1, no-boxes (pairs (c 
 returns : tie.Need-returns
 returns c = let t = c .before in sym (tangled-meeting (r t) (s t) (first-in (st t .pre .0)) (first-in (st t .pre .1)) (sym (t .meet .ensures) ∙ c .if1 .taken))
 
+-- no boxes are right of the first ring, whichever way it is asked
 outside-requires : tie.Need-outside-requires
-outside-requires c κs = search needs
+unfolding pairs
+outside-requires c κs = search (needs, no-boxes (r (c .before)) [])
 
 outside-requires-2 : tie.Need-outside-requires-2
-outside-requires-2 c κs = search needs
+unfolding pairs
+outside-requires-2 c κs = search (needs, no-boxes (r (c .before .before .before)) [])
 
 returns-2 : tie.Need-returns-2
 returns-2 c =
