@@ -1,4 +1,4 @@
--- 01, The job file: from the bytes of a file to the bytes that the field program prints. Assumes nothing.
+-- 01, The job file, with the inner rings of 02 (i): from the bytes of a file to the bytes that the field program prints. Assumes nothing.
 use mathlib.Core.Bool.{true, false}
 use mathlib.Core.Path.{_≡_}
 use mathlib.Core.List.{List, [], _∷_, _++_}
@@ -9,11 +9,13 @@ use Prim.Native.String.{String}
 use lib.Dec.{eqb, ltb, leb}
 use lib.IntN.{ℤ, pos, negsuc}
 use lib.ListN.{length, take, drop}
-use Rattle.rules.specs.Refusals.{Answer, answered, refused, crossed-at, Passed, _>>=_, _>>_, _if_, corner-count, corner-number, span-too-large, ring-crossed, kind-unknown, body-cut-off, out-of-place}
+use Rattle.rules.specs.Refusals.{Answer, answered, refused, crossed-at, Passed, _>>=_, _>>_, _if_, corner-count, corner-number, span-too-large, ring-crossed, kind-unknown, body-cut-off, out-of-place, too-many-rings}
 use Rattle.rules.specs.Systems.{system}
 use Rattle.rules.specs.Rings.{Corner, area2}
 use Rattle.rules.specs.Points.{Point, forward, Forward-right}
-use Rattle.rules.specs.RingAnswers.{number-bad, count-bad, span-bad, not-crossed, Nozzle, open-nozzle, border-nozzle, shut-nozzle, nozzle}
+use Rattle.rules.specs.RingAnswers.{number-bad, count-bad, span-bad, not-crossed, Nozzle, open-nozzle, border-nozzle, shut-nozzle}
+use Rattle.rules.specs.Fields.{Field, field-nozzle}
+use Rattle.rules.specs.FieldAnswers.{alone, inner-count-bad, placed}
 
 -- ---- the text that is printed: a text's bytes, and a whole number in decimal
 abbrev pub text : String → List ℕ
@@ -48,9 +50,9 @@ code-of body = little-endian (take 1 body)
 
 -- ---- the records: "One byte of kind, then a body whose length the kind fixes"
 pub data Kind : Type 0 where
-  begin-field corner close-ring nozzle-query point-to-plane : Kind
+  begin-field corner close-ring nozzle-query point-to-plane begin-inner : Kind
 
--- the table's rows: the kind byte, what it means, and the body's length
+-- the table's rows (02 (i)'s "kind 6, begin an inner ring, without a body" is none of them yet, so that no file comes to an inner ring): the kind byte, what it means, and the body's length
 pub record Row : Type 0 where
   pub byte : ℕ
   pub kind : Kind
@@ -73,11 +75,12 @@ unfoldable pub find-kind : ℕ → List Row → Answer Row
 find-kind byte [] = refused kind-unknown
 find-kind byte (k ∷ ks) = elim (eqb byte (k .byte)) [ true ↦ answered k | false ↦ find-kind byte ks ]
 
--- ---- the job's state: no field, a field being gathered with its code and corners, or an accepted field
+-- ---- the job's state: no field, a field being gathered with its code and corners, or an accepted field; 02 (i): or one with the corners of an inner ring being gathered
 pub data State : Type 0 where
   no-field : State
   gathering : ℕ → List Corner → State
-  accepted : List Corner → State
+  accepted : Field → State
+  gathering-inner : Field → List Corner → State
 
 pub record Step : Type 0 where
   pub state : State
@@ -93,13 +96,19 @@ print s l = answered (record { state = s; printed = l })
 unfoldable pub begun : ℕ → Answer Step
 begun c = system c >>= λ s. silent (gathering c [])
 
--- kind 2, "corner"; "the 1,025th corner is 6 at once, before 7"
-unfoldable pub cornered : ℕ → List Corner → ℤ → ℤ → Answer Step
-cornered c r X Y = do
-  corner-count if leb 1024 (length r)
+-- kind 2, "corner"; "the 1,025th corner is 6 at once, before 7"; 02 (i): "in a job at the 129th"
+unfoldable pub gathered : ℕ → List Corner → ℤ → ℤ → Answer (List Corner)
+gathered most r X Y = do
+  corner-count if leb most (length r)
   corner-number if number-bad X
   corner-number if number-bad Y
-  silent (gathering c (r ++ (record { x = X; y = Y } ∷ [])))
+  answered (r ++ (record { x = X; y = Y } ∷ []))
+
+unfoldable pub cornered : ℕ → List Corner → ℤ → ℤ → Answer Step
+cornered c r X Y = gathered 1024 r X Y >>= λ s. silent (gathering c s)
+
+unfoldable pub inner-cornered : Field → List Corner → ℤ → ℤ → Answer Step
+inner-cornered f r X Y = gathered 128 r X Y >>= λ s. silent (gathering-inner f s)
 
 -- kind 3, "close the ring"; "too few corners, 8 and 9 come at kind 3": `field CODE corners N area2 A`
 unfoldable pub closed : ℕ → List Corner → Answer Step
@@ -107,7 +116,21 @@ closed c r = do
   corner-count if count-bad r
   span-too-large if span-bad r
   not-crossed r
-  print (accepted r) (text "field " ++ decimal c ++ text " corners " ++ decimal (length r) ++ text " area2 " ++ whole (area2 r) ++ text "\n")
+  print (accepted (alone r)) (text "field " ++ decimal c ++ text " corners " ++ decimal (length r) ++ text " area2 " ++ whole (area2 r) ++ text "\n")
+
+-- 02 (i): "its kind 3 prints `inner K corners N area2 A`, K from 1"; its 6, 8, 9 and 15
+unfoldable pub inner-closed : Field → List Corner → Answer Step
+inner-closed f r = do
+  corner-count if inner-count-bad r
+  span-too-large if span-bad r
+  g ← placed f r
+  print (accepted g) (text "inner " ++ decimal (length (g .inner-rings)) ++ text " corners " ++ decimal (length r) ++ text " area2 " ++ whole (area2 r) ++ text "\n")
+
+-- 02 (i), kind 6, "begin an inner ring"; "16, a seventeenth inner ring, at its kind 6"
+unfoldable pub inner-begun : Field → Answer Step
+inner-begun f = do
+  too-many-rings if leb 16 (length (f .inner-rings))
+  silent (gathering-inner f [])
 
 -- kind 4, "nozzle query": `nozzle X Y open|border|shut`
 abbrev pub nozzle-word : Nozzle → List ℕ
@@ -115,33 +138,42 @@ nozzle-word open-nozzle = text "open"
 nozzle-word border-nozzle = text "border"
 nozzle-word shut-nozzle = text "shut"
 
-unfoldable pub queried : List Corner → ℤ → ℤ → Answer Step
-queried r X Y =
-    print (accepted r) (text "nozzle " ++ whole X ++ text " " ++ whole Y ++ text " " ++ nozzle-word (nozzle r (record { x = X; y = Y })) ++ text "\n")
+unfoldable pub queried : Field → ℤ → ℤ → Answer Step
+queried f X Y =
+    print (accepted f) (text "nozzle " ++ whole X ++ text " " ++ whole Y ++ text " " ++ nozzle-word (field-nozzle f (record { x = X; y = Y })) ++ text "\n")
 
 -- kind 5, "point to plane": `point X Y SCALE CONVERGENCE`
 unfoldable pub pointed : State → Answer Point → Answer Step
 pointed s a = a >>= λ p.
     print s (text "point " ++ whole (p .X) ++ text " " ++ whole (p .Y) ++ text " " ++ whole (p .scale) ++ text " " ++ whole (p .convergence) ++ text "\n")
 
--- "Kinds 2 and 3 need a field being gathered; 1, 4 and 5 need none; 4 needs an accepted field."
--- The forward is the one that is given (the code's own, or the definition's).
+-- "Kinds 2 and 3 need a field being gathered; 1, 4 and 5 need none; 4 needs an accepted field." 02 (i): kind 6 is "allowed when a field is accepted and none is gathered,
+-- else 13; that ring is then being gathered". The forward is the one that is given (the code's own, or the definition's).
 unfoldable pub step : (ℕ → ℤ → ℤ → Answer Point) → State → Kind → List ℕ → Answer Step
 step forward-at no-field begin-field b = begun (code-of b)
 step forward-at no-field corner b = refused out-of-place
 step forward-at no-field close-ring b = refused out-of-place
 step forward-at no-field nozzle-query b = refused out-of-place
 step forward-at no-field point-to-plane b = pointed no-field (forward-at (code-of b) (number-at 1 b) (number-at 9 b))
+step forward-at no-field begin-inner b = refused out-of-place
 step forward-at (gathering c r) begin-field b = refused out-of-place
 step forward-at (gathering c r) corner b = cornered c r (number-at 0 b) (number-at 8 b)
 step forward-at (gathering c r) close-ring b = closed c r
 step forward-at (gathering c r) nozzle-query b = refused out-of-place
 step forward-at (gathering c r) point-to-plane b = refused out-of-place
-step forward-at (accepted r) begin-field b = begun (code-of b)
-step forward-at (accepted r) corner b = refused out-of-place
-step forward-at (accepted r) close-ring b = refused out-of-place
-step forward-at (accepted r) nozzle-query b = queried r (number-at 0 b) (number-at 8 b)
-step forward-at (accepted r) point-to-plane b = pointed (accepted r) (forward-at (code-of b) (number-at 1 b) (number-at 9 b))
+step forward-at (gathering c r) begin-inner b = refused out-of-place
+step forward-at (accepted f) begin-field b = begun (code-of b)
+step forward-at (accepted f) corner b = refused out-of-place
+step forward-at (accepted f) close-ring b = refused out-of-place
+step forward-at (accepted f) nozzle-query b = queried f (number-at 0 b) (number-at 8 b)
+step forward-at (accepted f) point-to-plane b = pointed (accepted f) (forward-at (code-of b) (number-at 1 b) (number-at 9 b))
+step forward-at (accepted f) begin-inner b = inner-begun f
+step forward-at (gathering-inner f r) begin-field b = refused out-of-place
+step forward-at (gathering-inner f r) corner b = inner-cornered f r (number-at 0 b) (number-at 8 b)
+step forward-at (gathering-inner f r) close-ring b = inner-closed f r
+step forward-at (gathering-inner f r) nozzle-query b = refused out-of-place
+step forward-at (gathering-inner f r) point-to-plane b = refused out-of-place
+step forward-at (gathering-inner f r) begin-inner b = refused out-of-place
 
 -- one record, "In a job: 11, 12, 13, then the content's own"; what is left of the file goes with it
 pub record Read : Type 0 where
@@ -163,7 +195,8 @@ refusal-line n offset = text "refused " ++ decimal n ++ text " at " ++ decimal o
 unfoldable pub ending : State → ℕ → ℕ → List ℕ
 ending no-field offset count = text "end " ++ decimal count ++ text "\n"
 ending (gathering c r) offset count = refusal-line out-of-place offset ++ text "\n"
-ending (accepted r) offset count = text "end " ++ decimal count ++ text "\n"
+ending (accepted f) offset count = text "end " ++ decimal count ++ text "\n"
+ending (gathering-inner f r) offset count = refusal-line out-of-place offset ++ text "\n"
 
 -- "or stops at `refused R at OFFSET`, the offset of the record's kind byte; R = 9 is followed by ` edges I J`"; "Lines printed before a refusal stay."
 -- The first number only bounds how many records there can be: each takes a byte at least, so one more than the length never comes down to 0.

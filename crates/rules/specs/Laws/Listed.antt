@@ -18,7 +18,7 @@ use Rattle.rules.specs.Fields.{Field}
 use Rattle.rules.specs.Placing.{misplaced}
 use Rattle.rules.specs.FieldAnswers.{alone, with-ring, inner-count-bad, inner-checks, placed, outer-accepted, inner-accepted, rings-accepted, inner-read, rings-read, uneven, cut, field-accepted, field-read, accept-answer, field-nozzle-answer, field-position-answer}
 use Rattle.rules.specs.Conversion.{converted, conversion-by}
-use Rattle.rules.specs.JobFile.{Kind, begin-field, corner, close-ring, nozzle-query, point-to-plane, Row, kinds, find-kind, State, no-field, gathering, accepted, begun, cornered, closed, queried, pointed, code-of, number-at, step, read}
+use Rattle.rules.specs.JobFile.{Kind, begin-field, corner, close-ring, nozzle-query, point-to-plane, begin-inner, Row, kinds, find-kind, State, no-field, gathering, accepted, gathering-inner, begun, gathered, cornered, inner-cornered, closed, inner-closed, inner-begun, queried, pointed, code-of, number-at, step, read}
 
 -- ---- 02 (xii): "10 withdrawn for good"
 pub never-10 : {A : Type 0} (a : Answer A) → Listed a → a ≡ refused 10 → ⊥
@@ -213,10 +213,27 @@ module _ {forward-at : ℕ → ℤ → ℤ → Answer Point} {inverse-at : ℕ �
   unfolding begun
   begun-listed code = bind (system code) _ (system-listed code) (λ s. tt)
 
+  gathered-listed : (most : ℕ) (r : List Corner) (X Y : ℤ) → Listed (gathered most r X Y)
+  unfolding gathered
+  gathered-listed most r X Y =
+      after (6 if leb most (length r)) _ (test 6 (leb most (length r)) tt) (after (7 if number-bad X) _ (test 7 (number-bad X) tt) (after (7 if number-bad Y) _ (test 7 (number-bad Y) tt) tt))
+
   cornered-listed : (code : ℕ) (r : List Corner) (X Y : ℤ) → Listed (cornered code r X Y)
   unfolding cornered
-  cornered-listed code r X Y =
-      after (6 if leb 1024 (length r)) _ (test 6 (leb 1024 (length r)) tt) (after (7 if number-bad X) _ (test 7 (number-bad X) tt) (after (7 if number-bad Y) _ (test 7 (number-bad Y) tt) tt))
+  cornered-listed code r X Y = bind (gathered 1024 r X Y) _ (gathered-listed 1024 r X Y) (λ s. tt)
+
+  inner-cornered-listed : (f : Field) (r : List Corner) (X Y : ℤ) → Listed (inner-cornered f r X Y)
+  unfolding inner-cornered
+  inner-cornered-listed f r X Y = bind (gathered 128 r X Y) _ (gathered-listed 128 r X Y) (λ s. tt)
+
+  inner-closed-listed : (f : Field) (r : List Corner) → Listed (inner-closed f r)
+  unfolding inner-closed
+  inner-closed-listed f r =
+      after (6 if inner-count-bad r) _ (test 6 (inner-count-bad r) tt) (after (8 if span-bad r) _ (test 8 (span-bad r) tt) (bind (placed f r) _ (placed-listed f r) (λ g. tt)))
+
+  inner-begun-listed : (f : Field) → Listed (inner-begun f)
+  unfolding inner-begun
+  inner-begun-listed f = after (16 if leb 16 (length (f .inner-rings))) _ (test 16 (leb 16 (length (f .inner-rings))) tt) tt
 
   closed-listed : (code : ℕ) (r : List Corner) → Listed (closed code r)
   unfolding closed
@@ -227,9 +244,9 @@ module _ {forward-at : ℕ → ℤ → ℤ → Answer Point} {inverse-at : ℕ �
   unfolding pointed
   pointed-listed s b = bind (forward-at (code-of b) (number-at 1 b) (number-at 9 b)) _ (forward-listed (code-of b) (number-at 1 b) (number-at 9 b)) (λ p. tt)
 
-  queried-listed : (r : List Corner) (X Y : ℤ) → Listed (queried r X Y)
+  queried-listed : (f : Field) (X Y : ℤ) → Listed (queried f X Y)
   unfolding queried
-  queried-listed r X Y = tt
+  queried-listed f X Y = tt
 
   step-listed : (s : State) (k : Kind) (b : List ℕ) → Listed (step forward-at s k b)
   unfolding step
@@ -238,16 +255,25 @@ module _ {forward-at : ℕ → ℤ → ℤ → Answer Point} {inverse-at : ℕ �
   step-listed no-field close-ring b = tt
   step-listed no-field nozzle-query b = tt
   step-listed no-field point-to-plane b = pointed-listed no-field b
+  step-listed no-field begin-inner b = tt
   step-listed (gathering c r) begin-field b = tt
   step-listed (gathering c r) corner b = cornered-listed c r (number-at 0 b) (number-at 8 b)
   step-listed (gathering c r) close-ring b = closed-listed c r
   step-listed (gathering c r) nozzle-query b = tt
   step-listed (gathering c r) point-to-plane b = tt
-  step-listed (accepted r) begin-field b = begun-listed (code-of b)
-  step-listed (accepted r) corner b = tt
-  step-listed (accepted r) close-ring b = tt
-  step-listed (accepted r) nozzle-query b = queried-listed r (number-at 0 b) (number-at 8 b)
-  step-listed (accepted r) point-to-plane b = pointed-listed (accepted r) b
+  step-listed (gathering c r) begin-inner b = tt
+  step-listed (accepted f) begin-field b = begun-listed (code-of b)
+  step-listed (accepted f) corner b = tt
+  step-listed (accepted f) close-ring b = tt
+  step-listed (accepted f) nozzle-query b = queried-listed f (number-at 0 b) (number-at 8 b)
+  step-listed (accepted f) point-to-plane b = pointed-listed (accepted f) b
+  step-listed (accepted f) begin-inner b = inner-begun-listed f
+  step-listed (gathering-inner f r) begin-field b = tt
+  step-listed (gathering-inner f r) corner b = inner-cornered-listed f r (number-at 0 b) (number-at 8 b)
+  step-listed (gathering-inner f r) close-ring b = inner-closed-listed f r
+  step-listed (gathering-inner f r) nozzle-query b = tt
+  step-listed (gathering-inner f r) point-to-plane b = tt
+  step-listed (gathering-inner f r) begin-inner b = tt
 
   kind-listed : (byte : ℕ) (rows : List Row) → Listed (find-kind byte rows)
   unfolding find-kind
