@@ -2,13 +2,13 @@
 use mathlib.Core.Path.{_≡_, refl, sym, ap, _∙_}
 use mathlib.Core.Bool.{Bool, true, false}
 use mathlib.Core.List.{List, [], _∷_, _++_, map, append-assoc}
-use Prim.Native.Nat.{ℕ, suc, _+_, _-_, _*_, _^_, _<_}
+use Prim.Native.Nat.{ℕ, zero, suc, _+_, _-_, _*_, _^_, _≤_, _<_}
 use native.Mathlib.Numerals.{add-one}
 use native.Mathlib.Omega.{arith}
 use borrow.Author.Tests.{le-ltb, ltb-false}
 use lib.IntN.{ℤ, pos, negsuc, negℤ}
-use lib.ListN.{length, take, getD, set, length-set}
-use lib.Seq.{take-suc, take-suc-set}
+use lib.ListN.{length, take, drop, getD, set, length-set, length-drop}
+use lib.Seq.{take-suc, take-suc-set, take-all, take-nil, take-at, drop-at}
 use lib.Signed.{ltZ, mag}
 use mir.Syntax.{w64}
 use mir.Val.{toZ, ofZ, SFits}
@@ -16,13 +16,13 @@ use mir.Facts.{toZ-ofZ}
 use Rattle.rules.specs.Rings.{Corner, area2}
 use Rattle.rules.specs.Points.{above}
 use Rattle.rules.specs.Refusals.{Answer, answered, refused, crossed-at, _>>=_, _>>_, _if_, corner-count, span-too-large}
-use Rattle.rules.specs.RingAnswers.{corners, count-bad, number-bad, corner-bad, any-bad, span-bad, not-crossed, ring-checks, area-answer, crossing-answer, nozzle}
+use Rattle.rules.specs.RingAnswers.{corners, count-bad, number-bad, corner-bad, any-bad, span-bad, not-crossed, ring-checks, area-answer, crossing-answer}
 use Rattle.rings.specs.declared.CrossingAnswer as crossings
 use Rattle.rings.specs.declared.CrossingAnswer.the-variants as crossing-case
-use Rattle.rings.specs.Answers.{crossing-paper, position-answer}
+use Rattle.rings.specs.Answers.{crossing-paper}
 use Rattle.job_state.specs.declared.ring.Judged as judgement
 use Rattle.job_state.specs.declared.state.Corner as code
-use Rattle.job_state.specs.Gathered.{chosen, within, corner-of, ring-of, flat, judged, judged-flat, judged-paper, located}
+use Rattle.job_state.specs.Gathered.{chosen, within, corner-of, ring-of, flat, ring-from, judged, judged-flat, judged-paper}
 
 -- ---- a number within the limits
 module _ (z : ℤ) (f : SFits w64 z) where
@@ -61,10 +61,10 @@ ring-more cs i d h =
     ap (λ (k : ℕ). map corner-of (take k cs)) (add-one i) ∙ ap (map corner-of) (take-suc cs i d h) ∙ map-append corner-of (take i cs) (getD cs i d ∷ [])
 
 pub record Flattening (cs : List code.Corner) (numbers : List ℤ) (i : ℕ) : Type 0 where
-  pub long : length numbers ≡ 2048
+  pub long : length numbers ≡ 6144
   pub has : take (2 * i) numbers ≡ flat (ring-of i cs)
 
-pub starts : (cs : List code.Corner) (numbers : List ℤ) → length numbers ≡ 2048 → Flattening cs numbers 0
+pub starts : (cs : List code.Corner) (numbers : List ℤ) → length numbers ≡ 6144 → Flattening cs numbers 0
 unfolding flat ring-of
 starts cs numbers e = record { long = e; has = refl }
 
@@ -75,7 +75,7 @@ two-more l n a b h =
     ∙ ap (λ (t : List ℤ). t ++ (b ∷ [])) (take-suc-set l n a (omega arith))
     ∙ append-assoc (take n l) (a ∷ []) (b ∷ [])
 
-pub turned : {cs : List code.Corner} {numbers : List ℤ} {i : ℕ} (d : code.Corner) (x y : ℤ) → Flattening cs numbers i → i < 1024 → length cs ≡ 1024
+pub turned : {cs : List code.Corner} {numbers : List ℤ} {i : ℕ} (d : code.Corner) (x y : ℤ) → Flattening cs numbers i → i < 3072 → length cs ≡ 3072
     → x ≡ within (getD cs i d .x) → y ≡ within (getD cs i d .y) → Flattening cs (set (set numbers (2 * i) x) (2 * i + 1) y) (i + 1)
 unfolding flat
 turned {cs} {numbers} {i} d x y g h e ex ey = record {
@@ -130,24 +130,15 @@ unfolding ring-of
 ring-within n cs = none-bad (take n cs)
 
 module _ (r : List Corner) (good : any-bad r ≡ false) where
-  checks-by : Bool → Bool → Answer (List Corner)
+  unfoldable pub checks-by : Bool → Bool → Answer (List Corner)
   checks-by a b = do
     corner-count if a
     span-too-large if b
     answered r
 
-  checks-flat : ring-checks (flat r) ≡ checks-by (count-bad r) (span-bad r)
+  pub checks-flat : ring-checks (flat r) ≡ checks-by (count-bad r) (span-bad r)
   unfolding ring-checks checks-by
   checks-flat = rw (corners-flat r) (rw good refl)
-
-  pub located-by-flat : (p : Corner) → position-answer (flat r) p ≡ located r p
-  unfolding position-answer located checks-by
-  located-by-flat p = rw checks-flat (go (count-bad r) (span-bad r))
-    where
-      go : (a b : Bool) → (checks-by a b >>= λ r. answered (nozzle r p)) ≡ ((corner-count if a) >> ((span-too-large if b) >> answered (nozzle r p)))
-      go true b = refl
-      go false true = refl
-      go false false = refl
 
   pub judged-by-flat : judged-flat (flat r) ≡ judged r
   unfolding judged-flat crossing-answer area-answer judged checks-by
@@ -159,12 +150,58 @@ module _ (r : List Corner) (good : any-bad r ≡ false) where
       go false true = refl
       go false false = refl
 
--- a part of the array from its start on
+  -- a ring that is judged by its area passed the checks
+  pub judged-passes : (k : ℤ) → answered k ≡ judged r → ring-checks (flat r) ≡ answered r
+  unfolding judged checks-by
+  judged-passes k e = rw checks-flat (go (count-bad r) (span-bad r) e)
+    where
+      go : (a b : Bool) → answered k ≡ ((corner-count if a) >> ((span-too-large if b) >> (not-crossed r >> answered (area2 r)))) → checks-by a b ≡ answered r
+      go true b e = absurd (let z : _≡_ {A = ℕ} 0 1 = cc e in omega arith)
+      go false true e = absurd (let z : _≡_ {A = ℕ} 0 1 = cc e in omega arith)
+      go false false e = refl
+
+-- ---- parts of the array: from its start on, and one after the other
 pub part : (n : ℕ) (l : List ℤ) {r : List ℤ} → take n l ≡ r → take (n - 0) l ≡ r
 part n l e = ap (λ (k : ℕ). take k l) (same n) ∙ e
   where
     same : (n : ℕ) → n - 0 ≡ n
     same n = omega arith
+
+pub rest : (n : ℕ) (l : List ℤ) → n ≤ length l → take (length l - n) (drop n l) ≡ drop n l
+rest n l h = let d = length-drop n l in take-all (length l - n) (drop n l) (omega arith)
+
+take-plus : {A : Type 0} (m n : ℕ) (l : List A) → take (m + n) l ≡ take m l ++ take n (drop m l)
+take-plus zero n l = ap (λ (k : ℕ). take k l) (same n)
+  where
+    same : (n : ℕ) → 0 + n ≡ n
+    same n = omega arith
+take-plus (suc m) n [] = take-nil (suc m + n) ∙ sym (take-nil n)
+take-plus (suc m) n (x ∷ l) = ap (λ (k : ℕ). take k (x ∷ l)) (next m n) ∙ ap (λ t. x ∷ t) (take-plus m n l)
+  where
+    next : (m n : ℕ) → suc m + n ≡ suc (m + n)
+    next m n = omega arith
+
+pub ring-split : (start n : ℕ) (cs : List code.Corner) → ring-of (start + n) cs ≡ ring-of start cs ++ ring-from start n cs
+unfolding ring-of
+ring-split start n cs = ap (map corner-of) (take-plus start n cs) ∙ map-append corner-of (take start cs) (take n (drop start cs))
+
+pub flat-length : (r : List Corner) → length (flat r) ≡ 2 * length r
+unfolding flat
+flat-length [] = refl
+flat-length (c ∷ r) = let e = flat-length r in omega arith
+
+module _ (start n : ℕ) (cs : List code.Corner) (fits : length (ring-of start cs) ≡ start) where
+  first-long : length (flat (ring-of start cs)) ≡ 2 * start
+  first-long = flat-length (ring-of start cs) ∙ ap (λ (k : ℕ). 2 * k) fits
+
+  both : flat (ring-of (start + n) cs) ≡ flat (ring-of start cs) ++ flat (ring-from start n cs)
+  both = ap flat (ring-split start n cs) ∙ flat-append (ring-of start cs) (ring-from start n cs)
+
+  pub first-part : take (2 * start) (flat (ring-of (start + n) cs)) ≡ flat (ring-of start cs)
+  first-part = ap (take (2 * start)) both ∙ take-at (flat (ring-of start cs)) (flat (ring-from start n cs)) (2 * start) first-long
+
+  pub second-part : drop (2 * start) (flat (ring-of (start + n) cs)) ≡ flat (ring-from start n cs)
+  second-part = ap (drop (2 * start)) both ∙ drop-at (flat (ring-of start cs)) (flat (ring-from start n cs)) (2 * start) first-long
 
 -- ---- the crossing test's cases
 module _ (numbers : List ℤ) {c : crossings.CrossingAnswer} (told : crossing-paper c ≡ crossing-answer numbers) where

@@ -1,5 +1,7 @@
 -- What the proofs share: of the ring calls (Flat), of what a record makes of a state (Limits, Steps), and of the answers in place (InPlace).
+pub mod Fields
 pub mod Flat
 pub mod Limits
+pub mod Inner
 pub mod Steps
 pub mod InPlace

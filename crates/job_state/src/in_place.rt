@@ -1,21 +1,21 @@
 // What a record is answered by a job that stays where it lies: in go the few numbers that the answer rests on, and no corner is copied. `Job::take` answers by the
 // same functions, so both ways come to one result (Alike.antt).
 ghost use mathlib.Core.Path.{_≡_};
-ghost use Prim.Native.Nat.{_*_};
+ghost use Prim.Native.Nat.{_+_, _*_, _<_};
 ghost use lib.ListN.{length, take};
 ghost use Rattle.rules.specs.RingAnswers.{number-bad};
 ghost use Rattle.records.specs.declared.Record.the-variants as record-case;
-ghost use Rattle.job_state.specs.Gathered.{flat, ring-of, counted};
-ghost use Rattle.job_state.specs.States.{point-said, query-said};
+ghost use Rattle.job_state.specs.Gathered.{at-most, flat, ring-of, corner-refused};
+ghost use Rattle.job_state.specs.States.{most, starting, point-said, query-said};
 ghost use Rattle.job_state.specs.InPlace.{In, Lies, Answering, Cornering, Projecting, Corner-replied, Replied};
 use crate::ring;
 use crate::state::Answer;
 use crate::state::Corner;
 use crate::state::Phase;
 use crate::state::Position;
+use fields::FieldNozzle;
 use projection::ForwardAnswer;
 use records::Record;
-use rings::NozzleAnswer;
 
 // What is to be done where the job lies: an answer is given and the job stays as it is; a corner is stored behind the others, and nothing is answered; the corners
 // are laid out, and the record is asked again; or the job takes the record (`Job::take`).
@@ -26,9 +26,16 @@ pub enum Reply {
     Take,
 }
 
-// The reply to a record, by the job's phase and count of corners; `numbers` are its corners where they are laid out.
-pub fn reply_to(item: Record, phase: Phase, count: usize, laid: bool, numbers: &[i64]) -> Reply
-    ensures { λ r. ⌜ Replied item phase count laid (now (numbers .entry)) r ⌝ }
+// The reply to a record, by the job's phase and count of corners; where they are laid out, `counts` and `numbers` are the accepted rings.
+pub fn reply_to(
+    item: Record,
+    phase: Phase,
+    count: usize,
+    laid: bool,
+    counts: &[u32],
+    numbers: &[i64],
+) -> Reply
+    ensures { λ r. ⌜ Replied item phase count laid (now (counts .entry)) (now (numbers .entry)) r ⌝ }
 {
     match item {
         Record::Begin(_) => Reply::Take,
@@ -36,11 +43,12 @@ pub fn reply_to(item: Record, phase: Phase, count: usize, laid: bool, numbers: &
         Record::Close => Reply::Take,
         Record::Query(x, y) => {
             if laid {
-                return Reply::Say(query_answer(phase, count, numbers, x, y));
+                return Reply::Say(query_answer(phase, counts, numbers, x, y));
             }
             Reply::LayOut
         }
         Record::Point(code, b, l) => Reply::Say(point_answer(phase, code, b, l)),
+        Record::Inner => Reply::Take,
     }
 }
 
@@ -54,11 +62,32 @@ fn corner_reply(phase: Phase, count: usize, x: i64, y: i64) -> Reply
     Reply::Store(x, y)
 }
 
-// The counted corners as a query takes them: X and Y in turn. This alone copies the corners, once for all queries of a field.
-pub fn lay_out(corners: [Corner; 1024], count: usize) -> [i64; 2048]
-    ensures { λ r. ⌜ (length r ≡ 2048) × (take (2 * counted count) r ≡ flat (ring-of count corners)) ⌝ }
+// The corners of the accepted rings as a query takes them: X and Y in turn. This alone copies the corners, once for all queries of a field.
+pub fn lay_out(corners: [Corner; 3072], total: usize) -> [i64; 6144]
+    ensures { λ r. ⌜ (length r ≡ 6144) × (take (2 * at-most 3072 total) r ≡ flat (ring-of total corners)) ⌝ }
 {
-    ring::flatten(corners, ring::counted(count))
+    ring::flatten(corners, ring::at_most(3072, total))
+}
+
+// How many of the counts a query is asked of, and how many of the numbers: those of the accepted rings.
+pub fn counts_held(rings: usize) -> usize
+    ensures { λ r. ⌜ r ≡ at-most 17 rings ⌝ }
+{
+    ring::at_most(17, rings)
+}
+
+pub fn numbers_held(total: usize) -> usize
+    ensures { λ r. ⌜ r ≡ 2 * at-most 3072 total ⌝ }
+{
+    2 * ring::at_most(3072, total)
+}
+
+// The place in which a corner is stored.
+pub fn corner_place(phase: Phase, total: usize, count: usize) -> usize
+    requires { ⌜ count < most phase ⌝ }
+    ensures { λ r. ⌜ (r ≡ starting phase total + count) × (r < 3072) ⌝ }
+{
+    ring::starting(phase, total) + count
 }
 
 // Kind 2: the refusal, or 0 where the corner is to be stored behind the others.
@@ -67,15 +96,16 @@ pub(crate) fn corner_refusal(phase: Phase, count: usize, x: i64, y: i64) -> u8
 {
     match phase {
         Phase::Idle => 13,
-        Phase::Gathering => gathered_refusal(count, x, y),
+        Phase::Gathering => gathered_refusal(1024, count, x, y),
         Phase::Accepted => 13,
+        Phase::Inner => gathered_refusal(128, count, x, y),
     }
 }
 
-fn gathered_refusal(count: usize, x: i64, y: i64) -> u8
-    ensures { λ r. ⌜ Cornering Phase.Gathering count x y r ⌝ }
+fn gathered_refusal(most: usize, count: usize, x: i64, y: i64) -> u8
+    ensures { λ r. ⌜ r ≡ corner-refused most count x y ⌝ }
 {
-    if 1024 <= count {
+    if most <= count {
         return 6;
     }
     if outside(x) {
@@ -87,37 +117,26 @@ fn gathered_refusal(count: usize, x: i64, y: i64) -> u8
     0
 }
 
-// Kind 4: `numbers` are the field's corners, laid out.
-pub(crate) fn query_answer(phase: Phase, count: usize, numbers: &[i64], x: i64, y: i64) -> Answer
-    ensures { λ r. ⌜ Answering (Lies phase count (now (numbers .entry))) (record-case.Query x y) r ⌝ }
+// Kind 4: `counts` and `numbers` are the accepted rings.
+pub(crate) fn query_answer(phase: Phase, counts: &[u32], numbers: &[i64], x: i64, y: i64) -> Answer
+    ensures { λ r. ⌜ Answering (Lies phase (now (counts .entry)) (now (numbers .entry))) (record-case.Query x y) r ⌝ }
 {
     match phase {
         Phase::Idle => Answer::Refused(13),
         Phase::Gathering => Answer::Refused(13),
-        Phase::Accepted => located_answer(count, numbers, x, y),
+        Phase::Accepted => nozzle_answer(fields::position(counts, numbers, x, y), x, y),
+        Phase::Inner => Answer::Refused(13),
     }
-}
-
-// Numbers that end before the corners do, which `lay_out` does not hand out, are no field.
-fn located_answer(count: usize, numbers: &[i64], x: i64, y: i64) -> Answer
-    ensures { λ r. ⌜ Answering (Lies Phase.Accepted count (now (numbers .entry))) (record-case.Query x y) r ⌝ }
-{
-    let end = 2 * ring::counted(count);
-    if numbers.len() < end {
-        return Answer::Refused(13);
-    }
-    nozzle_answer(rings::position(&numbers[0..end], x, y), x, y)
 }
 
 // Kind 5.
 pub(crate) fn point_answer(phase: Phase, code: u8, b: i64, l: i64) -> Answer
     ensures { λ r. ⌜ Answering (In phase) (record-case.Point code b l) r ⌝ }
 {
-    match phase {
-        Phase::Idle => projected_answer(code, b, l),
-        Phase::Gathering => Answer::Refused(13),
-        Phase::Accepted => projected_answer(code, b, l),
+    if ring::gathers(phase) {
+        return Answer::Refused(13);
     }
+    projected_answer(code, b, l)
 }
 
 fn projected_answer(code: u8, b: i64, l: i64) -> Answer
@@ -145,15 +164,15 @@ fn outside(z: i64) -> bool
     z < -10000000000
 }
 
-// A ring that the checks 6 and 8 refuse is no accepted field. Crossing is not asked again.
-fn nozzle_answer(located: NozzleAnswer, x: i64, y: i64) -> Answer
+// Rings that the checks 6 and 8 refuse are no accepted field. Crossing and placing are not asked again.
+fn nozzle_answer(located: FieldNozzle, x: i64, y: i64) -> Answer
     ensures { λ r. ⌜ r ≡ query-said located x y ⌝ }
 {
     match located {
-        NozzleAnswer::Open => Answer::Nozzle(x, y, Position::Open),
-        NozzleAnswer::Border => Answer::Nozzle(x, y, Position::Border),
-        NozzleAnswer::Shut => Answer::Nozzle(x, y, Position::Shut),
-        NozzleAnswer::Crossed(_, _, _) => Answer::Refused(13),
-        NozzleAnswer::Refused(_) => Answer::Refused(13),
+        FieldNozzle::Open => Answer::Nozzle(x, y, Position::Open),
+        FieldNozzle::Border => Answer::Nozzle(x, y, Position::Border),
+        FieldNozzle::Shut => Answer::Nozzle(x, y, Position::Shut),
+        FieldNozzle::Crossed(_, _, _, _) => Answer::Refused(13),
+        FieldNozzle::Refused(_) => Answer::Refused(13),
     }
 }

@@ -1,11 +1,11 @@
 // The job's state by value, and what a record makes of it: a method takes one record and hands the state back with the answer beside it.
 // A refusal hands back the state as it was. A state that is not as last handed back answers too: States.antt says which of the rules' states it stands for.
 ghost use mathlib.Core.Path.{_≡_};
-ghost use Rattle.rules.specs.JobFile.{begun, closed};
+ghost use Prim.Native.Nat.{_≤_};
+ghost use Rattle.rules.specs.JobFile.{begun};
 ghost use Rattle.projection.specs.Worked.{worked-forward};
 ghost use Rattle.records.specs.declared.Record.the-variants as record-case;
-ghost use Rattle.job_state.specs.Gathered.{ring-of};
-ghost use Rattle.job_state.specs.States.{Stepping, Right-stepping, new-job, view, stepped};
+ghost use Rattle.job_state.specs.States.{Stepping, Right-stepping, new-job, joined-job, view, stepped};
 use crate::in_place;
 use crate::ring;
 use crate::ring::Judged;
@@ -20,10 +20,16 @@ pub enum Phase {
     Idle,
     Gathering,
     Accepted,
+    Inner,
 }
 
+// The corners of the accepted rings one after the other, the outer ring first, and behind them those of the ring being gathered; how many corners each accepted
+// ring has; how many rings are accepted, and their corners in all; and how many corners are gathered so far.
 pub struct Job {
-    pub corners: [Corner; 1024],
+    pub corners: [Corner; 3072],
+    pub counts: [u32; 17],
+    pub rings: usize,
+    pub total: usize,
     pub count: usize,
     pub code: u8,
     pub phase: Phase,
@@ -39,10 +45,11 @@ pub enum Position {
 pub enum Answer {
     Silent,
     Field(u8, usize, i64),
+    Inner(usize, usize, i64),
     Nozzle(i64, i64, Position),
     Point(i64, i64, i64, i64),
     Refused(u8),
-    Crossed(u64, u64, u64),
+    Crossed(u64, u64, u64, u64),
 }
 
 pub struct Taken {
@@ -56,7 +63,10 @@ impl Job {
     {
         let corner = Corner { x: 0, y: 0 };
         Job {
-            corners: [corner; 1024],
+            corners: [corner; 3072],
+            counts: [0u32; 17],
+            rings: 0,
+            total: 0,
             count: 0,
             code: 0,
             phase: Phase::Idle,
@@ -74,15 +84,16 @@ impl Job {
             Record::Close => self.close(),
             Record::Query(x, y) => self.query(x, y),
             Record::Point(code, b, l) => self.point(code, b, l),
+            Record::Inner => self.inner(),
         }
     }
 
-    fn out_of_place(self) -> Taken
-        ensures { λ r. ⌜ (r .job ≡ self) × (r .answer ≡ Answer.Refused 13) ⌝ }
+    fn refused(self, n: u8) -> Taken
+        ensures { λ r. ⌜ (r .job ≡ self) × (r .answer ≡ Answer.Refused n) ⌝ }
     {
         Taken {
             job: self,
-            answer: Answer::Refused(13),
+            answer: Answer::Refused(n),
         }
     }
 
@@ -91,32 +102,29 @@ impl Job {
         ensures { λ r. ⌜ Stepping (stepped worked-forward (view self) (record-case.Begin code)) (record-case.Begin code) self r ⌝ }
     {
         let phase = self.phase;
-        match phase {
-            Phase::Idle => self.begin_field(code),
-            Phase::Gathering => self.out_of_place(),
-            Phase::Accepted => self.begin_field(code),
+        if ring::gathers(phase) {
+            return self.refused(13);
         }
+        self.begin_field(code)
     }
 
     fn begin_field(self, code: u8) -> Taken
         ensures { λ r. ⌜ Stepping (begun code) (record-case.Begin code) self r ⌝ }
     {
         if code < 1 {
-            return Taken {
-                job: self,
-                answer: Answer::Refused(1),
-            };
+            return self.refused(1);
         }
         if 14 < code {
-            return Taken {
-                job: self,
-                answer: Answer::Refused(1),
-            };
+            return self.refused(1);
         }
         let corners = self.corners;
+        let counts = self.counts;
         Taken {
             job: Job {
                 corners: corners,
+                counts: counts,
+                rings: 0,
+                total: 0,
                 count: 0,
                 code: code,
                 phase: Phase::Gathering,
@@ -133,13 +141,11 @@ impl Job {
         let count = self.count;
         let refusal = in_place::corner_refusal(phase, count, x, y);
         if 0 < refusal {
-            return Taken {
-                job: self,
-                answer: Answer::Refused(refusal),
-            };
+            return self.refused(refusal);
         }
+        let place = in_place::corner_place(phase, self.total, count);
         let mut next = self;
-        next.corners[count] = Corner { x: x, y: y };
+        next.corners[place] = Corner { x: x, y: y };
         next.count = count + 1;
         Taken {
             job: next,
@@ -153,38 +159,73 @@ impl Job {
     {
         let phase = self.phase;
         match phase {
-            Phase::Idle => self.out_of_place(),
+            Phase::Idle => self.refused(13),
             Phase::Gathering => self.accept(),
-            Phase::Accepted => self.out_of_place(),
+            Phase::Accepted => self.refused(13),
+            Phase::Inner => self.accept_inner(),
         }
     }
 
     fn accept(self) -> Taken
         requires { ⌜ self .phase ≡ Phase.Gathering ⌝ }
-        ensures { λ r. ⌜ Stepping (closed (self .code) (ring-of (self .count) (self .corners))) record-case.Close self r ⌝ }
+        ensures { λ r. ⌜ Stepping (stepped worked-forward (view self) record-case.Close) record-case.Close self r ⌝ }
     {
         let corners = self.corners;
         let code = self.code;
-        let count = ring::counted(self.count);
+        let count = ring::at_most(1024, self.count);
         let judged = ring::judge(corners, count);
         match judged {
             Judged::Area(area) => Taken {
-                job: Job {
-                    corners: corners,
-                    count: count,
-                    code: code,
-                    phase: Phase::Accepted,
-                },
+                job: self.with_ring(0, 0, count),
                 answer: Answer::Field(code, count, area),
             },
-            Judged::Refused(n) => Taken {
+            Judged::Refused(n) => self.refused(n),
+            Judged::Crossed(number, low, high, looked) => Taken {
                 job: self,
-                answer: Answer::Refused(n),
+                answer: Answer::Crossed(number, low, high, looked),
             },
-            Judged::Crossed(low, high, looked) => Taken {
+        }
+    }
+
+    fn accept_inner(self) -> Taken
+        requires { ⌜ self .phase ≡ Phase.Inner ⌝ }
+        ensures { λ r. ⌜ Stepping (stepped worked-forward (view self) record-case.Close) record-case.Close self r ⌝ }
+    {
+        let corners = self.corners;
+        let counts = self.counts;
+        let rings = ring::at_most(16, self.rings);
+        let start = ring::at_most(2944, self.total);
+        let count = ring::at_most(128, self.count);
+        let judged = ring::judge_inner(corners, counts, rings, start, count);
+        match judged {
+            Judged::Area(area) => Taken {
+                job: self.with_ring(rings, start, count),
+                answer: Answer::Inner(rings, count, area),
+            },
+            Judged::Refused(n) => self.refused(n),
+            Judged::Crossed(number, low, high, looked) => Taken {
                 job: self,
-                answer: Answer::Crossed(low, high, looked),
+                answer: Answer::Crossed(number, low, high, looked),
             },
+        }
+    }
+
+    // The ring of the `count` corners from `start` on is accepted behind so many others.
+    fn with_ring(self, rings: usize, start: usize, count: usize) -> Job
+        requires { ⌜ (rings ≤ 16) × (start ≤ 2944) × (count ≤ 1024) ⌝ }
+        ensures { λ r. ⌜ r ≡ joined-job self rings start count ⌝ }
+    {
+        let corners = self.corners;
+        let mut counts = self.counts;
+        counts[rings] = count as u32;
+        Job {
+            corners: corners,
+            counts: counts,
+            rings: rings + 1,
+            total: start + count,
+            count: 0,
+            code: self.code,
+            phase: Phase::Accepted,
         }
     }
 
@@ -193,12 +234,14 @@ impl Job {
         ensures { λ r. ⌜ Stepping (stepped worked-forward (view self) (record-case.Query x y)) (record-case.Query x y) self r ⌝ }
     {
         let corners = self.corners;
-        let count = self.count;
+        let counts = self.counts;
         let phase = self.phase;
-        let numbers = in_place::lay_out(corners, count);
+        let rings = in_place::counts_held(self.rings);
+        let end = in_place::numbers_held(self.total);
+        let numbers = in_place::lay_out(corners, self.total);
         Taken {
             job: self,
-            answer: in_place::query_answer(phase, count, &numbers, x, y),
+            answer: in_place::query_answer(phase, &counts[0..rings], &numbers[0..end], x, y),
         }
     }
 
@@ -210,6 +253,50 @@ impl Job {
         Taken {
             job: self,
             answer: in_place::point_answer(phase, code, b, l),
+        }
+    }
+
+    // An inner ring is begun, where a field is accepted.
+    fn inner(self) -> Taken
+        ensures { λ r. ⌜ Stepping (stepped worked-forward (view self) record-case.Inner) record-case.Inner self r ⌝ }
+    {
+        let phase = self.phase;
+        match phase {
+            Phase::Idle => self.refused(13),
+            Phase::Gathering => self.refused(13),
+            Phase::Accepted => self.begin_inner(),
+            Phase::Inner => self.refused(13),
+        }
+    }
+
+    // Stored rings that are no field, which no job hands back, are refused as no field is.
+    fn begin_inner(self) -> Taken
+        requires { ⌜ self .phase ≡ Phase.Accepted ⌝ }
+        ensures { λ r. ⌜ Stepping (stepped worked-forward (view self) record-case.Inner) record-case.Inner self r ⌝ }
+    {
+        let corners = self.corners;
+        let counts = self.counts;
+        let rings = in_place::counts_held(self.rings);
+        let end = in_place::numbers_held(self.total);
+        let numbers = in_place::lay_out(corners, self.total);
+        let refusal = fields::refusal(&counts[0..rings], &numbers[0..end]);
+        if 0 < refusal {
+            return self.refused(13);
+        }
+        if 16 < rings {
+            return self.refused(16);
+        }
+        Taken {
+            job: Job {
+                corners: corners,
+                counts: counts,
+                rings: self.rings,
+                total: self.total,
+                count: 0,
+                code: self.code,
+                phase: Phase::Inner,
+            },
+            answer: Answer::Silent,
         }
     }
 }

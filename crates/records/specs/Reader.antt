@@ -7,7 +7,7 @@ use Prim.Native.Nat.{ℕ, _+_, _*_}
 use lib.Dec.{ltb}
 use lib.ListN.{length, take, drop, getD}
 use Rattle.rules.specs.Refusals.{Answer, answered, refused, crossed-at, body-cut-off, ring-crossed}
-use Rattle.rules.specs.JobFile.{Kind, begin-field, corner, close-ring, nozzle-query, point-to-plane, Row, kinds, find-kind, code-of, number-at}
+use Rattle.rules.specs.JobFile.{Kind, begin-field, corner, close-ring, nozzle-query, point-to-plane, begin-inner, Row, kinds, find-kind, code-of, number-at}
 use Rattle.records.specs.declared.Record as code
 use Rattle.records.specs.declared.Record.the-variants as case
 use Rattle.records.specs.declared.Read as reader
@@ -28,6 +28,7 @@ parsed corner b = case.Corner (number-at 0 b) (number-at 8 b)
 parsed close-ring b = case.Close
 parsed nozzle-query b = case.Query (number-at 0 b) (number-at 8 b)
 parsed point-to-plane b = case.Point (code-of b) (number-at 1 b) (number-at 9 b)
+parsed begin-inner b = case.Inner
 
 -- ---- a record at a place
 abbrev pub length-by : Answer Row → size.Length

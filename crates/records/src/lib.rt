@@ -12,6 +12,8 @@ pub enum Record {
     Close,
     Query(i64, i64),
     Point(u8, i64, i64),
+    // Begins an inner ring. No kind is read as it yet.
+    Inner,
 }
 
 pub struct Cursor {

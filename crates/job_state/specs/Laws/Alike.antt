@@ -13,6 +13,7 @@ use Rattle.records.specs.declared.Record as records
 use Rattle.records.specs.declared.Record.the-variants as record-case
 use Rattle.job_state.specs.declared.state.Phase as phases
 use Rattle.job_state.specs.declared.state.Answer as answers
+use Rattle.job_state.specs.declared.state.Answer.the-variants as answer-case
 use Rattle.job_state.specs.declared.state.Answer.the-variants.{Silent, Field, Nozzle, Point, Refused, Crossed}
 use Rattle.job_state.specs.declared.state.Job.{Job}
 use Rattle.job_state.specs.declared.state.Taken.{Taken}
@@ -31,10 +32,11 @@ state-is : (a : answers.Answer) (i : records.Record) (j k : Job) → k ≡ left 
 unfolding state-of
 state-is Silent i j k e = refl
 state-is (Field c n m) i j k e = refl
+state-is (answer-case.Inner l n m) i j k e = refl
 state-is (Nozzle X Y p) i j k e = refl
 state-is (Point X Y m c) i j k e = refl
 state-is (Refused n) i j k e = ap view e
-state-is (Crossed l m looked) i j k e = ap view e
+state-is (Crossed r l m looked) i j k e = ap view e
 
 after-is : {s : rules.Answer Step} {i : records.Record} {j : Job} {t : Taken} → Stepping s i j t → view (t .job) ≡ state-of (view j) s
 after-is {s} {i} {j} {t} h =

@@ -15,6 +15,7 @@ use Rattle.rules.specs.Laws.Job.{stands-for, decimal-stands}
 use Rattle.job_state.specs.declared.state.Position as positions
 use Rattle.job_state.specs.declared.state.Position.the-variants.{Open, Border, Shut}
 use Rattle.job_state.specs.declared.state.Answer as answers
+use Rattle.job_state.specs.declared.state.Answer.the-variants as answer-case
 use Rattle.job_state.specs.declared.state.Answer.the-variants.{Silent, Field, Nozzle, Point, Refused, Crossed}
 use Rattle.job_state.specs.Gathered.{chosen}
 use Rattle.job_state.specs.States.{word, line, paper}
@@ -118,9 +119,12 @@ position-word Border =
 position-word Shut =
     more {c = 115} (omega arith) (more {c = 104} (omega arith) (more {c = 117} (omega arith) (more {c = 116} (omega arith) none)))
 
--- ---- a line, by its first byte: the f of "field", the n of "nozzle", the p of "point"
+-- ---- a line, by its first byte: the f of "field", the i of "inner", the n of "nozzle", the p of "point"
 field-told : List ℕ → answers.Answer
 field-told l = Field (stands-for 0 (first l)) (stands-for 0 (first (rest (rest l)))) (signed-number (first (rest (rest (rest (rest l))))))
+
+inner-told : List ℕ → answers.Answer
+inner-told l = answer-case.Inner (stands-for 0 (first l)) (stands-for 0 (first (rest (rest l)))) (signed-number (first (rest (rest (rest (rest l))))))
 
 nozzle-told : List ℕ → answers.Answer
 nozzle-told l = Nozzle (signed-number (first l)) (signed-number (first (rest l))) (position (first (rest (rest l))))
@@ -131,17 +135,21 @@ point-told l =
 
 line-told : List ℕ → answers.Answer
 line-told [] = Silent
-line-told (c ∷ l) = chosen (eqb c 102) (field-told (rest l)) (chosen (eqb c 110) (nozzle-told (rest l)) (point-told (rest l)))
+line-told (c ∷ l) = chosen (eqb c 102) (field-told (rest l)) (chosen (eqb c 105) (inner-told (rest l)) (chosen (eqb c 110) (nozzle-told (rest l)) (point-told (rest l))))
 
 told : rules.Answer Step → answers.Answer
 told (answered d) = line-told (d .printed)
 told (refused n) = Refused n
-told (crossed-at pair) = Crossed (pair .low) (pair .high) (pair .looked-at)
+told (crossed-at pair) = Crossed (pair .ring) (pair .low) (pair .high) (pair .looked-at)
 
 module _ {a b c d : List ℕ} (p : Above 32 a) (q : Above 32 b) (r : Above 32 c) (s : Above 32 d) where
   field-words : field-told (a ++ (text " corners " ++ (b ++ (text " area2 " ++ (c ++ text "\n"))))) ≡ Field (stands-for 0 a) (stands-for 0 b) (signed-number c)
   unfolding field-told rest
   field-words = simp (next-words p, next-words q, first-word p, first-word q, last-word r)
+
+  inner-words : inner-told (a ++ (text " corners " ++ (b ++ (text " area2 " ++ (c ++ text "\n"))))) ≡ answer-case.Inner (stands-for 0 a) (stands-for 0 b) (signed-number c)
+  unfolding inner-told rest
+  inner-words = simp (next-words p, next-words q, first-word p, first-word q, last-word r)
 
   nozzle-words : nozzle-told (a ++ (text " " ++ (b ++ (text " " ++ (c ++ text "\n"))))) ≡ Nozzle (signed-number a) (signed-number b) (position c)
   unfolding nozzle-told
@@ -155,6 +163,11 @@ module _ {a b c d : List ℕ} (p : Above 32 a) (q : Above 32 b) (r : Above 32 c)
 field-line : (c n : ℕ) (k : ℤ) → line (Field c n k) ≡ text "field " ++ (decimal c ++ (text " corners " ++ (decimal n ++ (text " area2 " ++ (whole k ++ text "\n")))))
 unfolding line
 field-line c n k = simp append-assoc
+
+inner-line : (i n : ℕ) (k : ℤ)
+    → line (answer-case.Inner i n k) ≡ text "inner " ++ (decimal i ++ (text " corners " ++ (decimal n ++ (text " area2 " ++ (whole k ++ text "\n")))))
+unfolding line
+inner-line i n k = simp append-assoc
 
 nozzle-line : (X Y : ℤ) (p : positions.Position) → line (Nozzle X Y p) ≡ text "nozzle " ++ (whole X ++ (text " " ++ (whole Y ++ (text " " ++ (word p ++ text "\n")))))
 unfolding line
@@ -170,12 +183,14 @@ unfolding told line-told line rest
 told-back Silent s = refl
 told-back (Field c n k) s =
     ap line-told (field-line c n k) ∙ field-words (decimal-word c) (decimal-word n) (whole-word k) none ∙ simp (decimal-stands, whole-back)
+told-back (answer-case.Inner i n k) s =
+    ap line-told (inner-line i n k) ∙ inner-words (decimal-word i) (decimal-word n) (whole-word k) none ∙ simp (decimal-stands, whole-back)
 told-back (Nozzle X Y p) s =
     ap line-told (nozzle-line X Y p) ∙ nozzle-words (whole-word X) (whole-word Y) (position-word p) none ∙ simp (whole-back, position-back)
 told-back (Point X Y k c) s =
     ap line-told (point-line X Y k c) ∙ point-words (whole-word X) (whole-word Y) (whole-word k) (whole-word c) ∙ simp whole-back
 told-back (Refused n) s = refl
-told-back (Crossed i j looked) s = refl
+told-back (Crossed k i j looked) s = refl
 
 -- two answers of which the paper has the same are the same
 pub told-apart : (a b : answers.Answer) (s t : State) → paper a s ≡ paper b t → a ≡ b

@@ -9,20 +9,20 @@ use borrow.Author.Needs.{needs}
 use Rattle.job_state.proofs.in_place.lay_out.Statement.{statement}
 use Rattle.job_state.proofs.in_place.lay_out.Tie as tie
 
-counted-requires : tie.Need-counted-requires
-counted-requires c κs = search needs
+at-most-requires : tie.Need-at-most-requires
+at-most-requires c κs = search needs
 
 flatten-requires : tie.Need-flatten-requires
-flatten-requires c κs = let f = few (c .before .args .count) in let e = c .counted .ensures in omega arith
+flatten-requires c κs = let f = few 3072 (c .before .args .total) in let e = c .at-most .ensures in omega arith
 
 returns : tie.Need-returns
 returns c =
     let cs = c .before .before .args .corners in
-    let l : length cs ≡ 1024 = search needs in
-    let e = c .before .counted .ensures in (
+    let l : length cs ≡ 3072 = search needs in
+    let e = c .before .at-most .ensures in (
       c .flatten .ensures .0,
-      ap (λ (k : ℕ). take (2 * k) (c .flatten .result)) (sym e) ∙ c .flatten .ensures .1 ∙ ap (λ (k : ℕ). flat (ring-of k cs)) e ∙ ap flat (same-ring cs (c .before .before .args .count) l),
+      ap (λ (k : ℕ). take (2 * k) (c .flatten .result)) (sym e) ∙ c .flatten .ensures .1 ∙ ap (λ (k : ℕ). flat (ring-of k cs)) e ∙ ap flat (same-ring cs 3072 (c .before .before .args .total) l),
     )
 
 pub lay-out-spec : {M : Type 1} → statement M
-lay-out-spec = tie.close (tie.spec counted-requires flatten-requires returns)
+lay-out-spec = tie.close (tie.spec at-most-requires flatten-requires returns)

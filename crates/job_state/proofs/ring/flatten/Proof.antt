@@ -10,15 +10,15 @@ use Rattle.job_state.proofs.ring.flatten.Statement.{statement}
 use Rattle.job_state.proofs.ring.flatten.Tie as tie
 
 abbrev Inv-loop : tie.InvT-loop
-Inv-loop count corners numbers₀ i₀ numbers i = Flattening corners numbers i × (i ≤ count) × (length corners ≡ 1024)
+Inv-loop count corners numbers₀ i₀ numbers i = Flattening corners numbers i × (i ≤ count) × (length corners ≡ 3072)
 
 abbrev μ-loop : tie.MeasureT-loop
 μ-loop count corners numbers₀ i₀ numbers i = count - i
 
 loop-holds : tie.Need-loop-holds Inv-loop μ-loop
 loop-holds c =
-    let e : length (c .args .t1) ≡ 1024 = search needs in
-    (starts (c .args .t1) (replicate 2048 (pos 0)) refl, omega arith, e)
+    let e : length (c .args .t1) ≡ 3072 = search needs in
+    (starts (c .args .t1) (replicate 6144 (pos 0)) refl, omega arith, e)
 
 mul-c : tie.Need-mul-c Inv-loop μ-loop
 mul-c c = search needs

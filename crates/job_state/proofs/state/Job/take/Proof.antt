@@ -41,6 +41,12 @@ enum-known-item-4 c = search needs
 point-requires : tie.Need-point-requires
 point-requires c κs = search needs
 
+enum-told-2 : tie.Need-enum-told-2
+enum-told-2 c = search needs
+
+inner-requires : tie.Need-inner-requires
+inner-requires c κs = search needs
+
 -- the worked forward is one that is right
 by-right-forward : {i : Record} {j : Job} {t : Taken} → Stepping (stepped worked-forward (view j) i) i j t → Stepping (stepped worked-forward (view j) i) i j t × Right-stepping i j t
 by-right-forward h = (h, record { forward-at = worked-forward; forward-right = right .forward-right; steps = h })
@@ -73,6 +79,11 @@ returns-5 c =
     (of-item worked-forward (view (c .before .before .before .before .args .self)) (c .before .before .item4 .given .1)
     (read-two (λ B L. stepped worked-forward (view (c .before .before .before .before .args .self)) (Point (c .before .before .item4 .given .0 .0) B L)) (λ B L. Point (c .before .before .item4 .given .0 .0) B L) _ _ (record { sfits = c .before .known-told4 .given .1 .0 .1 }) (record { sfits = c .before .known-told4 .given .1 .1 .0 .1 }) (c .point .ensures)))
 
+returns-6 : tie.Need-returns-6
+returns-6 c =
+    by-right-forward
+    (of-item worked-forward (view (c .before .before .before .args .self)) (c .before .enum-told2 .given .1) (c .inner .ensures))
+
 pub take-spec : {M : Type 1} → statement M
 take-spec =
     tie.close
@@ -87,8 +98,11 @@ take-spec =
     query-requires
     enum-known-item-4
     point-requires
+    enum-told-2
+    inner-requires
     returns
     returns-2
     returns-3
     returns-4
-    returns-5)
+    returns-5
+    returns-6)
