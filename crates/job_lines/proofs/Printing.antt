@@ -50,6 +50,9 @@ module _ {a : answers.Answer} (o : ℕ) {l : Line} where
   pub field-said : {c n : ℕ} {z : ℤ} → a ≡ case.Field c n z → mag z < 2 ^ 63 → Says (line (case.Field c n (toZ w64 (ofZ w64 z)))) l → Says (printed-at a o) l
   field-said e h s = rw e (rw (toZ-ofZ (record { sfits = h })) at s)
 
+  pub inner-said : {k n : ℕ} {z : ℤ} → a ≡ case.Inner k n z → mag z < 2 ^ 63 → Says (line (case.Inner k n (toZ w64 (ofZ w64 z)))) l → Says (printed-at a o) l
+  inner-said e h s = rw e (rw (toZ-ofZ (record { sfits = h })) at s)
+
   pub nozzle-said : {x y : ℤ} {p : positions.Position} → a ≡ case.Nozzle x y p → mag x < 2 ^ 63 → mag y < 2 ^ 63
       → Says (line (case.Nozzle (toZ w64 (ofZ w64 x)) (toZ w64 (ofZ w64 y)) p)) l → Says (printed-at a o) l
   nozzle-said e h g s = rw e (rw (toZ-ofZ (record { sfits = h }), toZ-ofZ (record { sfits = g })) at s)
@@ -62,5 +65,5 @@ module _ {a : answers.Answer} (o : ℕ) {l : Line} where
   pub refused-said : {n : ℕ} → a ≡ case.Refused n → Says (refusal-text n o) l → Says (printed-at a o) l
   refused-said e s = rw e s
 
-  pub crossed-said : {i j looked : ℕ} → a ≡ case.Crossed i j looked → Says (crossed-text o i j) l → Says (printed-at a o) l
+  pub crossed-said : {k i j looked : ℕ} → a ≡ case.Crossed k i j looked → Says (crossed-text o i j) l → Says (printed-at a o) l
   crossed-said e s = rw e s

@@ -20,10 +20,11 @@ crossed-text offset i j = refusal-line ring-crossed offset ++ text " edges " ++ 
 abbrev pub printed-at : answers.Answer → ℕ → List ℕ
 printed-at case.Silent offset = line case.Silent
 printed-at (case.Field c n a) offset = line (case.Field c n a)
+printed-at (case.Inner k n a) offset = line (case.Inner k n a)
 printed-at (case.Nozzle X Y p) offset = line (case.Nozzle X Y p)
 printed-at (case.Point X Y s c) offset = line (case.Point X Y s c)
 printed-at (case.Refused n) offset = refusal-text n offset
-printed-at (case.Crossed i j looked) offset = crossed-text offset i j
+printed-at (case.Crossed k i j looked) offset = crossed-text offset i j
 
 -- a line of at most 128 bytes, and its text
 pub record Says (words : List ℕ) (l : Line) : Type 0 where

@@ -15,10 +15,11 @@ pub fn answer_line(answer: Answer, offset: u64) -> Line
     match answer {
         Answer::Silent => Line::empty(),
         Answer::Field(code, count, area) => field_line(code, count, area),
+        Answer::Inner(number, count, area) => inner_line(number, count, area),
         Answer::Nozzle(x, y, position) => nozzle_line(x, y, position),
         Answer::Point(x, y, scale, convergence) => point_line(x, y, scale, convergence),
         Answer::Refused(n) => refusal_line(n, offset),
-        Answer::Crossed(low, high, _) => crossed_line(offset, low, high),
+        Answer::Crossed(_, low, high, _) => crossed_line(offset, low, high),
     }
 }
 
@@ -28,6 +29,19 @@ fn field_line(code: u8, count: usize, area: i64) -> Line
     Line::empty()
         .with(b"field ")
         .with_number(code as u64)
+        .with(b" corners ")
+        .with_number(count as u64)
+        .with(b" area2 ")
+        .with_whole(area)
+        .with(b"\n")
+}
+
+fn inner_line(number: usize, count: usize, area: i64) -> Line
+    ensures { λ r. ⌜ Says (line (Answer.Inner number count area)) r ⌝ }
+{
+    Line::empty()
+        .with(b"inner ")
+        .with_number(number as u64)
         .with(b" corners ")
         .with_number(count as u64)
         .with(b" area2 ")
