@@ -8,10 +8,9 @@ use borrow.Author.Tests.{lt-ltb, le-ltb}
 use lib.Dec.{ltb}
 use lib.ListN.{length, take, length-take}
 use Rattle.rules.specs.Refusals as rules
-use Rattle.rules.specs.Refusals.{body-cut-off}
-use Rattle.rules.specs.Rings as ring
-use Rattle.rules.specs.RingAnswers.{count-bad, span-bad}
-use Rattle.rules.specs.JobFile.{State, no-field, accepted, Step, ending}
+use Rattle.rules.specs.Refusals.{refused, crossed-at, body-cut-off}
+use Rattle.rules.specs.Fields as fields
+use Rattle.rules.specs.JobFile.{State, Step, ending}
 use Rattle.projection.specs.Worked.{worked-forward}
 use Rattle.records.specs.declared.Record as records
 use Rattle.lines.specs.declared.Line.{Line}
@@ -19,12 +18,12 @@ use Rattle.lines.specs.Said.{said, pasted}
 use Rattle.job_state.specs.declared.state.Answer as answers
 use Rattle.job_state.specs.declared.state.Answer.the-variants as case
 use Rattle.job_state.specs.declared.state.Phase as phases
-use Rattle.job_state.specs.declared.state.Phase.the-variants.{Idle, Gathering, Accepted}
+use Rattle.job_state.specs.declared.state.Phase.the-variants.{Idle, Gathering, Accepted, Inner}
 use Rattle.job.specs.declared.run.Run.{Run}
 use Rattle.job.specs.declared.passage.Passage.{Passage}
 use Rattle.job_state.specs.declared.state.Job.{Job}
-use Rattle.job_state.specs.Gathered.{chosen, ring-of}
-use Rattle.job_state.specs.States.{view-by, view, paper, stepped, Stepping}
+use Rattle.job_state.specs.Gathered.{chosen}
+use Rattle.job_state.specs.States.{field-of, accepted-by, view-by, view, paper, stepped, Stepping}
 use Rattle.job.specs.Machine.{running, stopped, advanced, finished, held-of, progress-by}
 use Rattle.job_lines.specs.Printed.{Says, printed-at, refusal-text}
 use Rattle.job.specs.Runs.{refuses, progress, no-held, place-after, is-refused, run-after, ending-by, last, last-text, Finishing}
@@ -38,29 +37,32 @@ module _ (offset count size : ℕ) where
   unfolding advanced
   line-is case.Silent s = refl
   line-is (case.Field c n k) s = refl
+  line-is (case.Inner l n k) s = refl
   line-is (case.Nozzle X Y p) s = refl
   line-is (case.Point X Y k c) s = refl
   line-is (case.Refused n) s = refl
-  line-is (case.Crossed i j looked) s = refl
+  line-is (case.Crossed k i j looked) s = refl
 
   next-is : (a : answers.Answer) (s : State)
       → progress-by (refuses a) s ((offset + size) % 2 ^ 64) ((count + 1) % 2 ^ 64) [] ≡ advanced offset count size (paper a s) .next
   unfolding advanced
   next-is case.Silent s = refl
   next-is (case.Field c n k) s = refl
+  next-is (case.Inner l n k) s = refl
   next-is (case.Nozzle X Y p) s = refl
   next-is (case.Point X Y k c) s = refl
   next-is (case.Refused n) s = refl
-  next-is (case.Crossed i j looked) s = refl
+  next-is (case.Crossed k i j looked) s = refl
 
 -- the answer tells whether the record is refused
 refuses-is : (a : answers.Answer) (s : State) → refuses a ≡ is-refused (paper a s)
 refuses-is case.Silent s = refl
 refuses-is (case.Field c n k) s = refl
+refuses-is (case.Inner l n k) s = refl
 refuses-is (case.Nozzle X Y p) s = refl
 refuses-is (case.Point X Y k c) s = refl
 refuses-is (case.Refused n) s = refl
-refuses-is (case.Crossed i j looked) s = refl
+refuses-is (case.Crossed k i j looked) s = refl
 
 -- a record of `size` bytes that was answered `a`, from one job to another: what is printed, how far the run is then, and the run
 module _ (p : Passage) (size : ℕ) (i : records.Record) (j : Job) {j′ : Job} {a : answers.Answer}
@@ -84,15 +86,17 @@ module _ (p : Passage) (size : ℕ) (i : records.Record) (j : Job) {j′ : Job} 
       made e f = rw (e, f) refl
 
 -- ---- the end of the file
-pub ending-is : (p : phases.Phase) (c : ℕ) (r : List ring.Corner) (offset count : ℕ) → ending (view-by p c r) offset count ≡ ending-by p offset count
+pub ending-is : (p : phases.Phase) (j : Job) (offset count : ℕ) → ending (view-by p j) offset count ≡ ending-by p offset count
 unfolding ending
-ending-is Idle c r offset count = refl
-ending-is Gathering c r offset count = refl
-ending-is Accepted c r offset count = go (count-bad r || span-bad r)
+ending-is Idle j offset count = refl
+ending-is Gathering j offset count = refl
+ending-is Accepted j offset count = go (field-of (j .rings) (j .total) j)
   where
-    go : (b : Bool) → ending (chosen b no-field (accepted r)) offset count ≡ ending-by Accepted offset count
-    go true = refl
-    go false = refl
+    go : (a : rules.Answer fields.Field) → ending (accepted-by a) offset count ≡ ending-by Accepted offset count
+    go (rules.answered f) = refl
+    go (refused n) = refl
+    go (crossed-at pair) = refl
+ending-is Inner j offset count = refl
 
 last-is : (c : ℕ) (bytes : List ℕ) (s : State) (offset count : ℕ) → length bytes ≡ 18
     → finished (running s offset count (held-of c bytes))
@@ -113,7 +117,7 @@ finished-is r e f =
     rw f
     (last-is (r .held .count) (r .held .bytes) (view (r .job)) (r .place .offset) (r .place .records) e
     ∙ ap (λ (t : List ℕ). chosen (ltb 17 (r .held .count)) t (chosen (ltb 0 (r .held .count)) (refusal-text body-cut-off (r .place .offset)) t))
-    (ending-is (r .job .phase) (r .job .code) (ring-of (r .job .count) (r .job .corners)) (r .place .offset) (r .place .records)))
+    (ending-is (r .job .phase) (r .job) (r .place .offset) (r .place .records)))
 
 pub finishing : (r : Run) (out : List ℕ) {l : Line} {wrote : ℕ} {out′ : List ℕ} → length (r .held .bytes) ≡ 18 → r .stopped ≡ false → 128 ≤ length out
     → Says (last (r .held .count) (r .job .phase) (r .place .offset) (r .place .records)) l → wrote ≡ 0 + length (said l) → out′ ≡ pasted 0 (said l) out

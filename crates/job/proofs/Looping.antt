@@ -19,9 +19,11 @@ use Rattle.records.specs.declared.Record as records
 use Rattle.records.specs.declared.Record.the-variants as record-case
 use Rattle.job_state.specs.declared.state.Answer as answers
 use Rattle.job_state.specs.declared.state.Job.{Job}
-use Rattle.job_state.specs.Gathered.{chosen, ring-of, counted, flat}
-use Rattle.job_state.specs.States.{view, stepped, after-record, left, Stepping}
-use Rattle.job_state.specs.InPlace.{Counts, Stands}
+use Rattle.job_state.specs.Gathered.{chosen, at-most, ring-of, flat}
+use Rattle.job_state.specs.States as places
+use Rattle.job_state.specs.States.{most, rings-before, gathered-count, view, stepped, after-record, left, Stepping}
+use Rattle.job_state.specs.InPlace.{Lies, Stands}
+use Rattle.job_state.proofs.Limits.{few, counts-part, numbers-part}
 use Rattle.job_lines.specs.Printed.{printed-at}
 use Rattle.job.specs.declared.run.Run.{Run}
 use Rattle.job.specs.declared.run.Fed as feds
@@ -319,12 +321,23 @@ fewer : {k l : ℕ} (stops : Bool) → k ≡ chosen stops 0 (l - 1) → 0 < l �
 fewer true e h = omega arith
 fewer false e h = omega arith
 
+-- the job's arrays are as long as they are declared, and so are those that its rings are laid out in
+pub record Full (j : Job) : Type 0 where
+  pub corners-long : length (j .corners) ≡ 3072
+  pub counts-long : length (j .counts) ≡ 17
+
+pub record Holds (counts : List ℕ) (numbers : List ℤ) (rings end : ℕ) : Type 0 where
+  pub counts-room : length counts ≡ 17
+  pub numbers-room : length numbers ≡ 6144
+  pub rings-held : rings ≤ 17
+  pub end-held : end ≤ 6144
+
 -- ---- the loop's invariant: along with it, the corners are all there, and what is laid out of them is theirs
-pub record Turns (run₀ : Run) (chunk out₀ out : List ℕ) (j : Job) (p : Passage) (numbers : List ℤ) (laid-out : Bool) : Type 0 where
+pub record Turns (run₀ : Run) (chunk out₀ out : List ℕ) (j : Job) (p : Passage) (counts : List ℕ) (numbers : List ℤ) (rings end : ℕ) (laid-out : Bool) : Type 0 where
   pub along : Along run₀ chunk out₀ j p out
-  pub long : length (j .corners) ≡ 1024
-  pub room : length numbers ≡ 2048
-  pub laid : laid-out ≡ true → take (2 * counted (j .count)) numbers ≡ flat (ring-of (j .count) (j .corners))
+  pub long : Full j
+  pub room : Holds counts numbers rings end
+  pub laid : laid-out ≡ true → Lies (j .phase) (take (rings - 0) counts) (take (end - 0) numbers) j
 
 no-truth : {A : Type 0} → false ≡ true → A
 no-truth e = absurd (let z : _≡_ {A = ℕ} 0 1 = cc in omega arith)
@@ -334,49 +347,66 @@ pub unmapped : {A B : Type 0} (f : A → B) (l : List A) {n : ℕ} → length (m
 unmapped f l e = sym (length-map l f) ∙ e
 
 -- no record makes the corners more or fewer
-left-long : (s : rules.Answer Step) (i : records.Record) (j : Job) → length (j .corners) ≡ 1024 → length (left s i j .corners) ≡ 1024
-left-long (rules.answered d) (record-case.Begin c) j e = e
-left-long (rules.answered d) (record-case.Corner X Y) j e = length-set (j .corners) (j .count) (record { x = X; y = Y }) ∙ e
-left-long (rules.answered d) record-case.Close j e = e
+left-long : (s : rules.Answer Step) (i : records.Record) (j : Job) → Full j → Full (left s i j)
+left-long (rules.answered d) (record-case.Begin c) j e = record { corners-long = e .corners-long; counts-long = e .counts-long }
+left-long (rules.answered d) (record-case.Corner X Y) j e = record {
+  corners-long = length-set (j .corners) (places.starting (j .phase) (j .total) + j .count) (record { x = X; y = Y }) ∙ e .corners-long;
+  counts-long = e .counts-long;
+}
+left-long (rules.answered d) record-case.Close j e = record {
+  corners-long = e .corners-long;
+  counts-long = length-set (j .counts) (rings-before (j .phase) (j .rings)) (gathered-count (j .phase) j) ∙ e .counts-long;
+}
 left-long (rules.answered d) (record-case.Query X Y) j e = e
 left-long (rules.answered d) (record-case.Point c B L) j e = e
+left-long (rules.answered d) record-case.Inner j e = record { corners-long = e .corners-long; counts-long = e .counts-long }
 left-long (refused n) i j e = e
 left-long (crossed-at pair) i j e = e
 
 -- a turn: a byte and room for any line are left, and the byte is asked
-module _ {run₀ : Run} {chunk out₀ out : List ℕ} {j : Job} {p : Passage} {numbers : List ℤ} {laid : Bool} (t : Turns run₀ chunk out₀ out j p numbers laid) (m : 0 < p .left)
+module _ {run₀ : Run} {chunk out₀ out : List ℕ} {j : Job} {p : Passage} {counts : List ℕ} {numbers : List ℤ} {rings end : ℕ} {laid : Bool} (t : Turns run₀ chunk out₀ out j p counts numbers rings end laid) (m : 0 < p .left)
     (room : p .wrote + 128 ≤ length out) where
-  pub stands : Stands (j .phase) (j .count) laid numbers j
-  stands =
-      let all : Counts (j .phase) (j .count) j = record { phase-is = refl; count-is = refl; long = t .long } in
-      record { counts = all; laid = λ e. record { counts = all; laid = t .laid e } }
+  pub stands : Stands (j .phase) (j .count) laid (take (rings - 0) counts) (take (end - 0) numbers) j
+  stands = record { has = record { phase-is = refl; count-is = refl; long = t .long .corners-long }; laid = t .laid }
 
-  module _ {p′ : Passage} {out′ : List ℕ} (u : Turned p (getD chunk (length chunk - p .left) 0) (j .phase) (j .count) laid numbers out p′ out′) where
-    pub keeps : p′ .change ≡ Nothing → Turns run₀ chunk out₀ out′ j p′ numbers laid
+  module _ {p′ : Passage} {out′ : List ℕ} (u : Turned p (getD chunk (length chunk - p .left) 0) (j .phase) (j .count) laid (take (rings - 0) counts) (take (end - 0) numbers) out p′ out′) where
+    pub keeps : p′ .change ≡ Nothing → Turns run₀ chunk out₀ out′ j p′ counts numbers rings end laid
     keeps e = record { along = passes (t .along) m room (kept-as u e j stands); long = t .long; room = t .room; laid = t .laid }
 
     pub kept-less : p′ .change ≡ Nothing → p′ .left < p .left
     kept-less e = fewer (p′ .stopped) (kept-as u e j stands .left-is) m
 
-    pub corner-room : {X Y : ℤ} → p′ .change ≡ Store X Y → j .count < 1024
+    pub corner-room : {X Y : ℤ} → p′ .change ≡ Store X Y → j .count < most (j .phase)
     corner-room e = stored u e .0
 
-    pub stores : {X Y : ℤ} → p′ .change ≡ Store X Y → Turns run₀ chunk out₀ out′ (after-record (record-case.Corner X Y) j) p′ numbers false
+    pub stores : {X Y : ℤ} → p′ .change ≡ Store X Y → Turns run₀ chunk out₀ out′ (after-record (record-case.Corner X Y) j) p′ counts numbers rings end false
     stores {X} {Y} e = record {
-      along = passes (t .along) m room (stored u e .1 j (stands .counts));
-      long = length-set (j .corners) (j .count) (record { x = X; y = Y }) ∙ t .long;
+      along = passes (t .along) m room (stored u e .1 j (stands .has));
+      long = record {
+        corners-long = length-set (j .corners) (places.starting (j .phase) (j .total) + j .count) (record { x = X; y = Y }) ∙ t .long .corners-long;
+        counts-long = t .long .counts-long;
+      };
       room = t .room;
       laid = no-truth;
     }
 
     pub stored-less : {X Y : ℤ} → p′ .change ≡ Store X Y → p′ .left < p .left
-    stored-less e = fewer (p′ .stopped) (stored u e .1 j (stands .counts) .left-is) m
+    stored-less e = fewer (p′ .stopped) (stored u e .1 j (stands .has) .left-is) m
 
-    pub lays-out : {laid-numbers : List ℤ} → p′ .change ≡ LayOut → length laid-numbers ≡ 2048
-        → take (2 * counted (j .count)) laid-numbers ≡ flat (ring-of (j .count) (j .corners)) → Turns run₀ chunk out₀ out′ j p′ laid-numbers true
-    lays-out {laid-numbers} e l f =
+    pub lays-out : {laid-numbers : List ℤ} {k n : ℕ} → p′ .change ≡ LayOut → length laid-numbers ≡ 6144
+        → take (2 * at-most 3072 (j .total)) laid-numbers ≡ flat (ring-of (j .total) (j .corners)) → k ≡ at-most 17 (j .rings) → n ≡ 2 * at-most 3072 (j .total)
+        → Turns run₀ chunk out₀ out′ j p′ (j .counts) laid-numbers k n true
+    lays-out {laid-numbers} {k} {n} e l f a b =
         let h = unlaid-yet u e in
-        rw (h .1, h .2) (record { along = again (t .along); long = t .long; room = l; laid = λ g. f })
+        let c = few 17 (j .rings) in
+        let d = few 3072 (j .total) in
+        rw (h .1, h .2)
+        (record {
+          along = again (t .along);
+          long = t .long;
+          room = record { counts-room = t .long .counts-long; numbers-room = l; rings-held = omega arith; end-held = omega arith };
+          laid = λ g. record { phase-is = refl; counts-are = counts-part (j .counts) k (j .rings) (t .long .counts-long) a; numbers-are = numbers-part laid-numbers n (j .total) b f };
+        })
       where
         again : Along run₀ chunk out₀ j p out → Along run₀ chunk out₀ j (asking p LayOut) out
         again (going h g) = going h g
@@ -391,10 +421,10 @@ module _ {run₀ : Run} {chunk out₀ out : List ℕ} {j : Job} {p : Passage} {n
     module _ {i : records.Record} {size : ℕ} {j′ : Job} {a : answers.Answer} {p″ : Passage} {out″ : List ℕ} (e : p′ .change ≡ Take i size)
         (s : Stepping (stepped worked-forward (view j) i) i j (record { job = j′; answer = a }))
         (w : Saying (printed-at a (p′ .place .offset)) p′ (answered-at p′ a size) out′ p″ out″) where
-      pub takes : Turns run₀ chunk out₀ out″ j′ p″ numbers false
+      pub takes : Turns run₀ chunk out₀ out″ j′ p″ counts numbers rings end false
       takes = record {
         along = passes (t .along) m room (answered u e s w);
-        long = ap (λ (k : Job). length (k .corners)) (s .leaves) ∙ left-long (stepped worked-forward (view j) i) i j (t .long);
+        long = subst Full (sym (s .leaves)) (left-long (stepped worked-forward (view j) i) i j (t .long));
         room = t .room;
         laid = no-truth;
       }

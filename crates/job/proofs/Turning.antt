@@ -29,7 +29,7 @@ use Rattle.job_state.specs.declared.state.Job.{Job}
 use Rattle.job_state.specs.declared.in_place.Reply as replies
 use Rattle.job_state.specs.declared.in_place.Reply.the-variants.{Say, Store, LayOut}
 use Rattle.job_state.specs.Gathered.{chosen}
-use Rattle.job_state.specs.States.{view, line, stepped, after-record, Stepping}
+use Rattle.job_state.specs.States.{most, view, line, stepped, after-record, Stepping}
 use Rattle.job_state.specs.InPlace.{Counts, Stands, Replied}
 use Rattle.job_lines.specs.Printed.{Says, printed-at, refusal-text}
 use Rattle.job.specs.declared.run.Held.{Held}
@@ -164,13 +164,13 @@ no-line offset = refl
 
 -- ---- a whole record, by the reply to it
 module _ (p : Passage) (i : code.Record) (size : ℕ) {reply : replies.Reply} where
-  promised : {phase : phases.Phase} {count : ℕ} {laid : Bool} {numbers : List ℤ} {r : replies.Reply} → reply ≡ r → Replied i phase count laid numbers reply → Replied i phase count laid numbers r
+  promised : {phase : phases.Phase} {count : ℕ} {laid : Bool} {counts : List ℕ} {numbers : List ℤ} {r : replies.Reply} → reply ≡ r → Replied i phase count laid counts numbers reply → Replied i phase count laid counts numbers r
   promised e h = rw e at h
 
   pub says-it : {a : answers.Answer} {out out′ : List ℕ} {p′ : Passage} → reply ≡ Say a → Saying (printed-at a (p .place .offset)) p (answered-at p a size) out p′ out′
       → Followed p i size reply out p′ out′
   says-it {a} e s = record {
-    turned = λ byte phase count laid numbers m r. record {
+    turned = λ byte phase count laid counts numbers m r. record {
       asked = rw (s .is) λ j g.
           let t = promised e r .promised .steps j g in
           passed j j (answered-at p a size) (m j) (answered-printed p size i j t) (answered-next p size i j t) (answered-run p size i j t) refl refl (s .short) (s .holds);
@@ -179,7 +179,7 @@ module _ (p : Passage) (i : code.Record) (size : ℕ) {reply : replies.Reply} wh
 
   pub stores-it : {X Y : ℤ} {out : List ℕ} {p′ : Passage} → reply ≡ Store X Y → p′ ≡ storing p size X Y → Followed p i size reply out p′ out
   stores-it {X} {Y} {out} e s = record {
-    turned = λ byte phase count laid numbers m r.
+    turned = λ byte phase count laid counts numbers m r.
         let c = promised e r .promised in
         record {
           asked = rw s (
@@ -197,10 +197,10 @@ module _ (p : Passage) (i : code.Record) (size : ℕ) {reply : replies.Reply} wh
       none n = omega arith
 
   pub lays-out : {out : List ℕ} {p′ : Passage} → reply ≡ LayOut → p′ ≡ asking p changes-case.LayOut → Followed p i size reply out p′ out
-  lays-out e s = record { turned = λ byte phase count laid numbers m r. record { asked = rw s (promised e r .promised, refl, refl) } }
+  lays-out e s = record { turned = λ byte phase count laid counts numbers m r. record { asked = rw s (promised e r .promised, refl, refl) } }
 
   pub asks-it : {out : List ℕ} {p′ : Passage} → p′ ≡ asking p (changes-case.Take i size) → Followed p i size reply out p′ out
-  asks-it s = record { turned = λ byte phase count laid numbers m r. record { asked = rw s (refl, refl, m) } }
+  asks-it s = record { turned = λ byte phase count laid counts numbers m r. record { asked = rw s (refl, refl, m) } }
 
 -- ---- any byte
 module _ {p : Passage} {byte : ℕ} {begun : Held} {found : reader.Read} (b : Begun p byte begun found) where
@@ -208,8 +208,8 @@ module _ {p : Passage} {byte : ℕ} {begun : Held} {found : reader.Read} (b : Be
   completes {i} {c} e j = whole-taken (run-of j p) byte begun found (b .goes) (b .held) (b .with) (b .read) i c e
 
   -- a record whose body is cut off still
-  pub waits-on : {phase : phases.Phase} {count : ℕ} {laid : Bool} {numbers : List ℤ} {out : List ℕ} {p′ : Passage} (n at : ℕ) → found ≡ Refused n at → n ≡ body-cut-off
-      → p′ ≡ awaiting p begun → Turned p byte phase count laid numbers out p′ out
+  pub waits-on : {phase : phases.Phase} {count : ℕ} {laid : Bool} {counts : List ℕ} {numbers : List ℤ} {out : List ℕ} {p′ : Passage} (n at : ℕ) → found ≡ Refused n at → n ≡ body-cut-off
+      → p′ ≡ awaiting p begun → Turned p byte phase count laid counts numbers out p′ out
   waits-on {out = out} n at e f g = record {
     asked = rw g λ j h. record {
       took = waits (run-of j p) begun;
@@ -226,8 +226,8 @@ module _ {p : Passage} {byte : ℕ} {begun : Held} {found : reader.Read} (b : Be
       none n = omega arith
 
   -- a record of no kind
-  pub refuses-it : {phase : phases.Phase} {count : ℕ} {laid : Bool} {numbers : List ℤ} {out out′ : List ℕ} {p′ : Passage} (n at : ℕ) → found ≡ Refused n at
-      → (n ≡ body-cut-off → ⊥) → Saying (refusal-text n (p .place .offset)) p (refused-at p n) out p′ out′ → Turned p byte phase count laid numbers out p′ out′
+  pub refuses-it : {phase : phases.Phase} {count : ℕ} {laid : Bool} {counts : List ℕ} {numbers : List ℤ} {out out′ : List ℕ} {p′ : Passage} (n at : ℕ) → found ≡ Refused n at
+      → (n ≡ body-cut-off → ⊥) → Saying (refusal-text n (p .place .offset)) p (refused-at p n) out p′ out′ → Turned p byte phase count laid counts numbers out p′ out′
   refuses-it n at e f s = record {
     asked = rw (s .is) λ j g.
         passed j j (refused-at p n) (unknown-taken (run-of j p) byte begun found (b .goes) (b .held) (b .with) (b .read) n at e f) refl refl refl refl refl (s .short) (s .holds);
@@ -237,15 +237,15 @@ module _ {p : Passage} {byte : ℕ} {begun : Held} {found : reader.Read} (b : Be
   never-nothing j e = never-ends (run-of j p) byte begun found (b .goes) (b .held) (b .with) (b .read) e
 
 -- ---- a byte that was asked, by what it asks
-module _ {p : Passage} {byte : ℕ} {phase : phases.Phase} {count : ℕ} {laid : Bool} {numbers : List ℤ} {out out′ : List ℕ} {p′ : Passage} (t : Turned p byte phase count laid numbers out p′ out′) where
-  asked-at : {c : changes.Change} → p′ .change ≡ c → Asked p byte phase count laid numbers out p′ out′ c
-  asked-at e = subst (λ (c : changes.Change). Asked p byte phase count laid numbers out p′ out′ c) e (t .asked)
+module _ {p : Passage} {byte : ℕ} {phase : phases.Phase} {count : ℕ} {laid : Bool} {counts : List ℕ} {numbers : List ℤ} {out out′ : List ℕ} {p′ : Passage} (t : Turned p byte phase count laid counts numbers out p′ out′) where
+  asked-at : {c : changes.Change} → p′ .change ≡ c → Asked p byte phase count laid counts numbers out p′ out′ c
+  asked-at e = subst (λ (c : changes.Change). Asked p byte phase count laid counts numbers out p′ out′ c) e (t .asked)
 
-  pub kept-as : p′ .change ≡ changes-case.Nothing → (j : Job) → Stands phase count laid numbers j → Passing j p byte out j p′ out′
+  pub kept-as : p′ .change ≡ changes-case.Nothing → (j : Job) → Stands phase count laid counts numbers j → Passing j p byte out j p′ out′
   kept-as e = asked-at e
 
   pub stored : {X Y : ℤ} → p′ .change ≡ changes-case.Store X Y
-      → (count < 1024) × ((j : Job) → Counts phase count j → Passing j p byte out (after-record (record-case.Corner X Y) j) p′ out′)
+      → (count < most phase) × ((j : Job) → Counts phase count j → Passing j p byte out (after-record (record-case.Corner X Y) j) p′ out′)
   stored e = asked-at e
 
   pub unlaid-yet : p′ .change ≡ changes-case.LayOut → (laid ≡ false) × (p′ ≡ asking p changes-case.LayOut) × (out′ ≡ out)

@@ -15,7 +15,7 @@ use Rattle.job_state.specs.declared.state.Phase as phases
 use Rattle.job_state.specs.declared.state.Job.{Job}
 use Rattle.job_state.specs.declared.in_place.Reply as replies
 use Rattle.job_state.specs.Gathered.{chosen}
-use Rattle.job_state.specs.States.{view, stepped, after-record}
+use Rattle.job_state.specs.States.{most, view, stepped, after-record}
 use Rattle.job_state.specs.InPlace.{Counts, Stands, Replied}
 use Rattle.job_lines.specs.Printed.{printed-at, refusal-text}
 use Rattle.job.specs.declared.run.Held.{Held}
@@ -97,18 +97,18 @@ Completes p byte i size = (j : Job)
 
 -- a byte, by what it asks of the job. Where it asks nothing, the byte is taken by the job as it is; a corner is to be stored; a query waits for the corners to be
 -- laid out; and a record that the job is to take is whole with this byte
-abbrev pub Asked : Passage → ℕ → phases.Phase → ℕ → Bool → List ℤ → List ℕ → Passage → List ℕ → changes.Change → Type 0
-Asked p byte phase count laid-out numbers out p′ out′ Nothing = (j : Job) → Stands phase count laid-out numbers j → Passing j p byte out j p′ out′
-Asked p byte phase count laid-out numbers out p′ out′ (Store X Y) =
-    (count < 1024) × ((j : Job) → Counts phase count j → Passing j p byte out (after-record (record-case.Corner X Y) j) p′ out′)
-Asked p byte phase count laid-out numbers out p′ out′ LayOut = (laid-out ≡ false) × (p′ ≡ asking p LayOut) × (out′ ≡ out)
-Asked p byte phase count laid-out numbers out p′ out′ (Take i size) =
+abbrev pub Asked : Passage → ℕ → phases.Phase → ℕ → Bool → List ℕ → List ℤ → List ℕ → Passage → List ℕ → changes.Change → Type 0
+Asked p byte phase count laid-out counts numbers out p′ out′ Nothing = (j : Job) → Stands phase count laid-out counts numbers j → Passing j p byte out j p′ out′
+Asked p byte phase count laid-out counts numbers out p′ out′ (Store X Y) =
+    (count < most phase) × ((j : Job) → Counts phase count j → Passing j p byte out (after-record (record-case.Corner X Y) j) p′ out′)
+Asked p byte phase count laid-out counts numbers out p′ out′ LayOut = (laid-out ≡ false) × (p′ ≡ asking p LayOut) × (out′ ≡ out)
+Asked p byte phase count laid-out counts numbers out p′ out′ (Take i size) =
     (p′ ≡ asking p (Take i size)) × (out′ ≡ out) × Completes p byte i size
 
-pub record Turned (p : Passage) (byte : ℕ) (phase : phases.Phase) (count : ℕ) (laid-out : Bool) (numbers : List ℤ) (out : List ℕ) (p′ : Passage) (out′ : List ℕ) : Type 0 where
-  pub asked : Asked p byte phase count laid-out numbers out p′ out′ (p′ .change)
+pub record Turned (p : Passage) (byte : ℕ) (phase : phases.Phase) (count : ℕ) (laid-out : Bool) (counts : List ℕ) (numbers : List ℤ) (out : List ℕ) (p′ : Passage) (out′ : List ℕ) : Type 0 where
+  pub asked : Asked p byte phase count laid-out counts numbers out p′ out′ (p′ .change)
 
 -- a whole record, by the reply to it: of every byte with which it is whole
 pub record Followed (p : Passage) (i : records.Record) (size : ℕ) (reply : replies.Reply) (out : List ℕ) (p′ : Passage) (out′ : List ℕ) : Type 0 where
-  pub turned : (byte : ℕ) (phase : phases.Phase) (count : ℕ) (laid-out : Bool) (numbers : List ℤ) → Completes p byte i size → Replied i phase count laid-out numbers reply
-      → Turned p byte phase count laid-out numbers out p′ out′
+  pub turned : (byte : ℕ) (phase : phases.Phase) (count : ℕ) (laid-out : Bool) (counts : List ℕ) (numbers : List ℤ) → Completes p byte i size → Replied i phase count laid-out counts numbers reply
+      → Turned p byte phase count laid-out counts numbers out p′ out′

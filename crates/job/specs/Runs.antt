@@ -18,7 +18,7 @@ use Rattle.projection.specs.Worked.{worked-forward}
 use Rattle.job_state.specs.declared.state.Answer as answers
 use Rattle.job_state.specs.declared.state.Answer.the-variants as case
 use Rattle.job_state.specs.declared.state.Phase as phases
-use Rattle.job_state.specs.declared.state.Phase.the-variants.{Idle, Gathering, Accepted}
+use Rattle.job_state.specs.declared.state.Phase.the-variants.{Idle, Gathering, Accepted, Inner}
 use Rattle.job.specs.declared.run.Held.{Held}
 use Rattle.job.specs.declared.run.Place.{Place}
 use Rattle.job.specs.declared.run.Run.{Run}
@@ -31,10 +31,11 @@ use Rattle.job_lines.specs.Printed.{refusal-text}
 abbrev pub refuses : answers.Answer → Bool
 refuses case.Silent = false
 refuses (case.Field c n a) = false
+refuses (case.Inner k n a) = false
 refuses (case.Nozzle X Y p) = false
 refuses (case.Point X Y s c) = false
 refuses (case.Refused n) = true
-refuses (case.Crossed i j looked) = true
+refuses (case.Crossed k i j looked) = true
 
 -- how far a run has come
 abbrev pub progress : Run → Progress
@@ -116,6 +117,7 @@ abbrev pub ending-by : phases.Phase → ℕ → ℕ → List ℕ
 ending-by Idle offset count = text "end " ++ decimal count ++ text "\n"
 ending-by Gathering offset count = refusal-text out-of-place offset
 ending-by Accepted offset count = text "end " ++ decimal count ++ text "\n"
+ending-by Inner offset count = refusal-text out-of-place offset
 
 abbrev pub last : ℕ → phases.Phase → ℕ → ℕ → List ℕ
 last held p offset count = chosen (ltb 17 held) (ending-by p offset count) (chosen (ltb 0 held) (refusal-text body-cut-off offset) (ending-by p offset count))

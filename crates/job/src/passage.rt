@@ -58,11 +58,12 @@ impl Passage {
         phase: Phase,
         count: usize,
         laid: bool,
+        counts: &[u32],
         numbers: &[i64],
         out: &mut [u8],
     ) -> Passage
         requires { ⌜ (self .stopped ≡ false) × (0 < self .left) × (self .left ≤ length (now chunk)) × (self .wrote + 128 ≤ length (now out)) ⌝ }
-        ensures { λ r. ⌜ Turned self (getD (now (chunk .entry)) (length (now (chunk .entry)) - self .left) 0) phase count laid (now (numbers .entry)) (now (out .entry)) r (now (out .exit)) ⌝ }
+        ensures { λ r. ⌜ Turned self (getD (now (chunk .entry)) (length (now (chunk .entry)) - self .left) 0) phase count laid (now (counts .entry)) (now (numbers .entry)) (now (out .entry)) r (now (out .exit)) ⌝ }
     {
         let at = chunk.len() - self.left;
         let held = self.held;
@@ -70,7 +71,7 @@ impl Passage {
         let found = begun.read();
         match found {
             Read::Whole(item, cursor) => {
-                let reply = in_place::reply_to(item, phase, count, laid, numbers);
+                let reply = in_place::reply_to(item, phase, count, laid, counts, numbers);
                 self.whole(item, cursor.at, reply, out)
             }
             Read::Refused(n, _) => {

@@ -105,10 +105,11 @@ pub(crate) fn refuses(answer: Answer) -> bool
     match answer {
         Answer::Silent => false,
         Answer::Field(_, _, _) => false,
+        Answer::Inner(_, _, _) => false,
         Answer::Nozzle(_, _, _) => false,
         Answer::Point(_, _, _, _) => false,
         Answer::Refused(_) => true,
-        Answer::Crossed(_, _, _) => true,
+        Answer::Crossed(_, _, _, _) => true,
     }
 }
 
@@ -149,24 +150,39 @@ impl Run {
     {
         let mut job = self.job;
         let mut passage = self.start(chunk.len());
-        let mut numbers = [0i64; 2048];
+        let mut counts = [0u32; 17];
+        let mut numbers = [0i64; 6144];
+        let mut rings: usize = 0;
+        let mut end: usize = 0;
         let mut laid_out = false;
         while passage.goes(out.len()) {
             let phase = job.phase;
             let count = job.count;
-            passage = passage.turn(chunk, phase, count, laid_out, &numbers, out);
+            passage = passage.turn(
+                chunk,
+                phase,
+                count,
+                laid_out,
+                &counts[0..rings],
+                &numbers[0..end],
+                out,
+            );
             let change = passage.change;
             match change {
                 Change::Nothing => continue,
                 Change::Store(x, y) => {
-                    job.corners[count] = Corner { x: x, y: y };
+                    let place = in_place::corner_place(phase, job.total, count);
+                    job.corners[place] = Corner { x: x, y: y };
                     job.count = count + 1;
                     laid_out = false;
                     continue;
                 }
                 Change::LayOut => {
                     let corners = job.corners;
-                    numbers = in_place::lay_out(corners, count);
+                    counts = job.counts;
+                    numbers = in_place::lay_out(corners, job.total);
+                    rings = in_place::counts_held(job.rings);
+                    end = in_place::numbers_held(job.total);
                     laid_out = true;
                     continue;
                 }
@@ -236,5 +252,6 @@ fn ending_line(phase: Phase, place: Place) -> Line
         Phase::Idle => line::end_line(place.records),
         Phase::Gathering => line::refusal_line(13, place.offset),
         Phase::Accepted => line::end_line(place.records),
+        Phase::Inner => line::refusal_line(13, place.offset),
     }
 }

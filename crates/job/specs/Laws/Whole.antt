@@ -14,7 +14,7 @@ use lib.Seq.{take-at, drop-at, take-all}
 use Rattle.rules.specs.Refusals as rules
 use Rattle.rules.specs.Refusals.{_>>=_, answered, refused, crossed-at, kind-unknown, body-cut-off}
 use Rattle.rules.specs.Points as points
-use Rattle.rules.specs.JobFile.{Kind, begin-field, corner, close-ring, nozzle-query, point-to-plane, Row, kinds, find-kind, State, no-field, gathering, accepted, Step, step, Read, read, job-by}
+use Rattle.rules.specs.JobFile.{Kind, begin-field, corner, close-ring, nozzle-query, point-to-plane, begin-inner, Row, kinds, find-kind, State, no-field, gathering, accepted, gathering-inner, Step, step, Read, read, job-by}
 use Rattle.rules.specs.Laws.Job.{after, from, job-from, from-end, from-record}
 use Rattle.records.specs.declared.Read as reader
 use Rattle.records.specs.declared.Read.the-variants.{Whole, Refused}
@@ -34,16 +34,25 @@ module _ (f : ℕ → ℤ → ℤ → rules.Answer points.Point) where
   step-of no-field close-ring b = refl
   step-of no-field nozzle-query b = refl
   step-of no-field point-to-plane b = refl
+  step-of no-field begin-inner b = refl
   step-of (gathering c r) begin-field b = refl
   step-of (gathering c r) corner b = refl
   step-of (gathering c r) close-ring b = refl
   step-of (gathering c r) nozzle-query b = refl
   step-of (gathering c r) point-to-plane b = refl
-  step-of (accepted r) begin-field b = refl
-  step-of (accepted r) corner b = refl
-  step-of (accepted r) close-ring b = refl
-  step-of (accepted r) nozzle-query b = refl
-  step-of (accepted r) point-to-plane b = refl
+  step-of (gathering c r) begin-inner b = refl
+  step-of (accepted f) begin-field b = refl
+  step-of (accepted f) corner b = refl
+  step-of (accepted f) close-ring b = refl
+  step-of (accepted f) nozzle-query b = refl
+  step-of (accepted f) point-to-plane b = refl
+  step-of (accepted f) begin-inner b = refl
+  step-of (gathering-inner f r) begin-field b = refl
+  step-of (gathering-inner f r) corner b = refl
+  step-of (gathering-inner f r) close-ring b = refl
+  step-of (gathering-inner f r) nozzle-query b = refl
+  step-of (gathering-inner f r) point-to-plane b = refl
+  step-of (gathering-inner f r) begin-inner b = refl
 
   -- ---- what the rules read of a record, by its kind's row
   done-by : Row → rules.Answer Step → rules.Answer Read

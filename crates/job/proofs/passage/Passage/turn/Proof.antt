@@ -17,9 +17,9 @@ use Rattle.job_state.proofs.in_place.reply_to.Reads as reply-to-reads
 
 -- the held bytes with the byte, and what stands in them
 begun : (c : lts.After-read (with-reads.Asked, with-reads.Learnt, read-reads.Asked, read-reads.Learnt, reply-to-reads.Asked, reply-to-reads.Learnt, whole-reads.Asked, whole-reads.Learnt, waits-reads.Asked, waits-reads.Learnt, refuses-reads.Asked, refuses-reads.Learnt) reads.Pre reads.Post)
-    → Begun (c .before .before .before .before .before .before .before .args .self) (getD (c .before .before .before .before .before .before .before .args .chunk .now) (length (c .before .before .before .before .before .before .before .args .chunk .now) - c .before .before .before .before .before .before .before .args .self .left) 0) (c .before .with .result) (c .read .result)
+    → Begun (c .before .before .before .before .before .before .before .before .args .self) (getD (c .before .before .before .before .before .before .before .before .args .chunk .now) (length (c .before .before .before .before .before .before .before .before .args .chunk .now) - c .before .before .before .before .before .before .before .before .args .self .left) 0) (c .before .with .result) (c .read .result)
 begun c = record {
-  goes = c .before .before .before .before .before .before .before .pre .0;
+  goes = c .before .before .before .before .before .before .before .before .pre .0;
   few = c .before .with .ensures .0;
   held = c .before .with .ensures .1;
   long = c .before .with .ensures .2;
@@ -69,7 +69,7 @@ same-length c = search needs
 
 returns-2 : tie.Need-returns-2
 returns-2 c =
-    c .before .before .whole .ensures .turned _ _ _ _ _ (completes (begun (c .before .before .before .before .before .before .before .before)) (c .before .before .before .before .before .before .found .given .1)) (c .before .before .before .before .reply-to .ensures)
+    c .before .before .whole .ensures .turned _ _ _ _ _ _ (completes (begun (c .before .before .before .before .before .before .before .before)) (c .before .before .before .before .before .before .found .given .1)) (c .before .before .before .before .reply-to .ensures)
 
 same-length-2 : tie.Need-same-length-2
 same-length-2 c = search needs
