@@ -276,6 +276,7 @@ impl Job {
     {
         let corners = self.corners;
         let counts = self.counts;
+        let code = self.code;
         let rings = in_place::counts_held(self.rings);
         let end = in_place::numbers_held(self.total);
         let numbers = in_place::lay_out(corners, self.total);
@@ -293,7 +294,7 @@ impl Job {
                 rings: self.rings,
                 total: self.total,
                 count: 0,
-                code: self.code,
+                code: code,
                 phase: Phase::Inner,
             },
             answer: Answer::Silent,
