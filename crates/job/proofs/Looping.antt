@@ -23,7 +23,7 @@ use Rattle.job_state.specs.Gathered.{chosen, at-most, ring-of, flat}
 use Rattle.job_state.specs.States as places
 use Rattle.job_state.specs.States.{most, rings-before, gathered-count, view, stepped, after-record, left, Stepping}
 use Rattle.job_state.specs.InPlace.{Lies, Stands}
-use Rattle.job_state.proofs.Limits.{few, counts-part, numbers-part}
+use Rattle.job_state.proofs.Limits.{counts-part, numbers-part}
 use Rattle.job_lines.specs.Printed.{printed-at}
 use Rattle.job.specs.declared.run.Run.{Run}
 use Rattle.job.specs.declared.run.Fed as feds
@@ -317,6 +317,12 @@ abbrev pub unlaid : Bool → ℕ
 unlaid true = 0
 unlaid false = 1
 
+pub less-by : {k l : ℕ} (b c : Bool) → k < l → 2 * k + unlaid b < 2 * l + unlaid c
+less-by true true h = omega arith
+less-by true false h = omega arith
+less-by false true h = omega arith
+less-by false false h = omega arith
+
 fewer : {k l : ℕ} (stops : Bool) → k ≡ chosen stops 0 (l - 1) → 0 < l → k < l
 fewer true e h = omega arith
 fewer false e h = omega arith
@@ -326,18 +332,16 @@ pub record Full (j : Job) : Type 0 where
   pub corners-long : length (j .corners) ≡ 3072
   pub counts-long : length (j .counts) ≡ 17
 
-pub record Holds (counts : List ℕ) (numbers : List ℤ) (rings end : ℕ) : Type 0 where
+pub record Holds (counts : List ℕ) (numbers : List ℤ) : Type 0 where
   pub counts-room : length counts ≡ 17
   pub numbers-room : length numbers ≡ 6144
-  pub rings-held : rings ≤ 17
-  pub end-held : end ≤ 6144
 
 -- ---- the loop's invariant: along with it, the corners are all there, and what is laid out of them is theirs
-pub record Turns (run₀ : Run) (chunk out₀ out : List ℕ) (j : Job) (p : Passage) (counts : List ℕ) (numbers : List ℤ) (rings end : ℕ) (laid-out : Bool) : Type 0 where
+pub record Turns (run₀ : Run) (chunk out₀ out : List ℕ) (j : Job) (p : Passage) (counts : List ℕ) (numbers : List ℤ) : Type 0 where
   pub along : Along run₀ chunk out₀ j p out
   pub long : Full j
-  pub room : Holds counts numbers rings end
-  pub laid : laid-out ≡ true → Lies (j .phase) (take (rings - 0) counts) (take (end - 0) numbers) j
+  pub room : Holds counts numbers
+  pub laid : p .laid ≡ true → Lies (j .phase) (take (at-most 17 (j .rings) - 0) counts) (take (2 * at-most 3072 (j .total) - 0) numbers) j
 
 no-truth : {A : Type 0} → false ≡ true → A
 no-truth e = absurd (let z : _≡_ {A = ℕ} 0 1 = cc in omega arith)
@@ -364,55 +368,55 @@ left-long (refused n) i j e = e
 left-long (crossed-at pair) i j e = e
 
 -- a turn: a byte and room for any line are left, and the byte is asked
-module _ {run₀ : Run} {chunk out₀ out : List ℕ} {j : Job} {p : Passage} {counts : List ℕ} {numbers : List ℤ} {rings end : ℕ} {laid : Bool} (t : Turns run₀ chunk out₀ out j p counts numbers rings end laid) (m : 0 < p .left)
+module _ {run₀ : Run} {chunk out₀ out : List ℕ} {j : Job} {p : Passage} {counts : List ℕ} {numbers : List ℤ} (t : Turns run₀ chunk out₀ out j p counts numbers) (m : 0 < p .left)
     (room : p .wrote + 128 ≤ length out) where
-  pub stands : Stands (j .phase) (j .count) laid (take (rings - 0) counts) (take (end - 0) numbers) j
+  pub stands : Stands (j .phase) (j .count) (p .laid) (take (at-most 17 (j .rings) - 0) counts) (take (2 * at-most 3072 (j .total) - 0) numbers) j
   stands = record { has = record { phase-is = refl; count-is = refl; long = t .long .corners-long }; laid = t .laid }
 
-  module _ {p′ : Passage} {out′ : List ℕ} (u : Turned p (getD chunk (length chunk - p .left) 0) (j .phase) (j .count) laid (take (rings - 0) counts) (take (end - 0) numbers) out p′ out′) where
-    pub keeps : p′ .change ≡ Nothing → Turns run₀ chunk out₀ out′ j p′ counts numbers rings end laid
-    keeps e = record { along = passes (t .along) m room (kept-as u e j stands); long = t .long; room = t .room; laid = t .laid }
+  module _ {p′ : Passage} {out′ : List ℕ} {k n : ℕ} (rings : k ≡ at-most 17 (j .rings)) (end : n ≡ 2 * at-most 3072 (j .total)) (asked-of : Turned p (getD chunk (length chunk - p .left) 0) (j .phase) (j .count) (take (k - 0) counts) (take (n - 0) numbers) out p′ out′) where
+    u : Turned p (getD chunk (length chunk - p .left) 0) (j .phase) (j .count) (take (at-most 17 (j .rings) - 0) counts) (take (2 * at-most 3072 (j .total) - 0) numbers) out p′ out′
+    u = rw (rings, end) at asked-of
+
+    pub keeps : p′ .change ≡ Nothing → Turns run₀ chunk out₀ out′ j p′ counts numbers
+    keeps e = record { along = passes (t .along) m room (kept-as u e .1 j stands); long = t .long; room = t .room; laid = λ g. t .laid (sym (kept-as u e .0) ∙ g) }
 
     pub kept-less : p′ .change ≡ Nothing → p′ .left < p .left
-    kept-less e = fewer (p′ .stopped) (kept-as u e j stands .left-is) m
+    kept-less e = fewer (p′ .stopped) (kept-as u e .1 j stands .left-is) m
 
     pub corner-room : {X Y : ℤ} → p′ .change ≡ Store X Y → j .count < most (j .phase)
-    corner-room e = stored u e .0
+    corner-room e = stored u e .1
 
-    pub stores : {X Y : ℤ} → p′ .change ≡ Store X Y → Turns run₀ chunk out₀ out′ (after-record (record-case.Corner X Y) j) p′ counts numbers rings end false
+    pub stores : {X Y : ℤ} → p′ .change ≡ Store X Y → Turns run₀ chunk out₀ out′ (after-record (record-case.Corner X Y) j) p′ counts numbers
     stores {X} {Y} e = record {
-      along = passes (t .along) m room (stored u e .1 j (stands .has));
+      along = passes (t .along) m room (stored u e .2 j (stands .has));
       long = record {
         corners-long = length-set (j .corners) (places.starting (j .phase) (j .total) + j .count) (record { x = X; y = Y }) ∙ t .long .corners-long;
         counts-long = t .long .counts-long;
       };
       room = t .room;
-      laid = no-truth;
+      laid = λ g. no-truth (sym (stored u e .0) ∙ g);
     }
 
     pub stored-less : {X Y : ℤ} → p′ .change ≡ Store X Y → p′ .left < p .left
-    stored-less e = fewer (p′ .stopped) (stored u e .1 j (stands .has) .left-is) m
+    stored-less e = fewer (p′ .stopped) (stored u e .2 j (stands .has) .left-is) m
 
-    pub lays-out : {laid-numbers : List ℤ} {k n : ℕ} → p′ .change ≡ LayOut → length laid-numbers ≡ 6144
-        → take (2 * at-most 3072 (j .total)) laid-numbers ≡ flat (ring-of (j .total) (j .corners)) → k ≡ at-most 17 (j .rings) → n ≡ 2 * at-most 3072 (j .total)
-        → Turns run₀ chunk out₀ out′ j p′ (j .counts) laid-numbers k n true
-    lays-out {laid-numbers} {k} {n} e l f a b =
+    pub lays-out : {laid-numbers : List ℤ} → p′ .change ≡ LayOut → length laid-numbers ≡ 6144
+        → take (2 * at-most 3072 (j .total)) laid-numbers ≡ flat (ring-of (j .total) (j .corners)) → Turns run₀ chunk out₀ out′ j p′ (j .counts) laid-numbers
+    lays-out {laid-numbers} e l f =
         let h = unlaid-yet u e in
-        let c = few 17 (j .rings) in
-        let d = few 3072 (j .total) in
         rw (h .1, h .2)
         (record {
           along = again (t .along);
           long = t .long;
-          room = record { counts-room = t .long .counts-long; numbers-room = l; rings-held = omega arith; end-held = omega arith };
-          laid = λ g. record { phase-is = refl; counts-are = counts-part (j .counts) k (j .rings) (t .long .counts-long) a; numbers-are = numbers-part laid-numbers n (j .total) b f };
+          room = record { counts-room = t .long .counts-long; numbers-room = l };
+          laid = λ g. record { phase-is = refl; counts-are = counts-part (j .counts) (at-most 17 (j .rings)) (j .rings) (t .long .counts-long) refl; numbers-are = numbers-part laid-numbers (2 * at-most 3072 (j .total)) (j .total) refl f };
         })
       where
-        again : Along run₀ chunk out₀ j p out → Along run₀ chunk out₀ j (asking p LayOut) out
+        again : Along run₀ chunk out₀ j p out → Along run₀ chunk out₀ j (asking p LayOut true) out
         again (going h g) = going h g
         again (ended n l f) = ended n l f
 
-    pub laid-less : p′ .change ≡ LayOut → 2 * p′ .left + 0 < 2 * p .left + unlaid laid
+    pub laid-less : p′ .change ≡ LayOut → 2 * p′ .left + unlaid (p′ .laid) < 2 * p .left + unlaid (p .laid)
     laid-less e = let h = unlaid-yet u e in rw (h .1, h .0) (omega arith)
 
     pub asked-room : {i : records.Record} {size : ℕ} → p′ .change ≡ Take i size → (0 < p′ .left) × (p′ .wrote + 128 ≤ length out′)
@@ -421,12 +425,12 @@ module _ {run₀ : Run} {chunk out₀ out : List ℕ} {j : Job} {p : Passage} {c
     module _ {i : records.Record} {size : ℕ} {j′ : Job} {a : answers.Answer} {p″ : Passage} {out″ : List ℕ} (e : p′ .change ≡ Take i size)
         (s : Stepping (stepped worked-forward (view j) i) i j (record { job = j′; answer = a }))
         (w : Saying (printed-at a (p′ .place .offset)) p′ (answered-at p′ a size) out′ p″ out″) where
-      pub takes : Turns run₀ chunk out₀ out″ j′ p″ counts numbers rings end false
+      pub takes : Turns run₀ chunk out₀ out″ j′ p″ counts numbers
       takes = record {
         along = passes (t .along) m room (answered u e s w);
         long = subst Full (sym (s .leaves)) (left-long (stepped worked-forward (view j) i) i j (t .long));
         room = t .room;
-        laid = no-truth;
+        laid = λ g. no-truth (sym (ap (λ (q : Passage). q .laid) (w .is) ∙ ap (λ (q : Passage). q .laid) (asked u e .0)) ∙ g);
       }
 
       pub taken-less : p″ .left < p .left

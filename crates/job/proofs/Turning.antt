@@ -106,9 +106,9 @@ place-is q size e f = one e f
     one : {a b c d : ℕ} → a ≡ c → b ≡ d → _≡_ {A = Place} (record { offset = a; records = b }) (record { offset = c; records = d })
     one e f = rw (e, f) refl
 
-same-passage : {h h′ : Held} {q q′ : Place} {l l′ w w′ : ℕ} {b b′ : Bool} (c : changes.Change) → h ≡ h′ → q ≡ q′ → l ≡ l′ → w ≡ w′ → b ≡ b′
-    → _≡_ {A = Passage} (record { held = h; place = q; left = l; wrote = w; stopped = b; change = c }) (record { held = h′; place = q′; left = l′; wrote = w′; stopped = b′; change = c })
-same-passage c e f g h i = rw (e, f, g, h, i) refl
+same-passage : {h h′ : Held} {q q′ : Place} {l l′ w w′ : ℕ} {b b′ : Bool} (laid : Bool) (c : changes.Change) → h ≡ h′ → q ≡ q′ → l ≡ l′ → w ≡ w′ → b ≡ b′
+    → _≡_ {A = Passage} (record { held = h; place = q; left = l; wrote = w; stopped = b; laid = laid; change = c }) (record { held = h′; place = q′; left = l′; wrote = w′; stopped = b′; laid = laid; change = c })
+same-passage laid c e f g h i = rw (e, f, g, h, i) refl
 
 -- a line that was put behind what was written, by its text
 put-is : (p : Passage) {words : List ℕ} {l : Line} {out out′ : List ℕ} {p′ q : Passage} → Says words l → out′ ≡ pasted (p .wrote) (said l) out → p′ ≡ q → Saying words p q out p′ out′
@@ -120,19 +120,19 @@ end-is p s ends = rw (s .says) at ends
 pub answering : (p : Passage) (a : answers.Answer) (size : ℕ) {l : Line} {h : Held} {q : Place} {left end : ℕ} {stops : Bool} {out out′ : List ℕ} → Says (printed-at a (p .place .offset)) l
     → end ≡ p .wrote + length (said l) → out′ ≡ pasted (p .wrote) (said l) out → h ≡ no-held → q .offset ≡ (p .place .offset + size) % 2 ^ 64 → q .records ≡ (p .place .records + 1) % 2 ^ 64
     → left ≡ chosen stops 0 (p .left - 1) → stops ≡ refuses a
-    → Saying (printed-at a (p .place .offset)) p (answered-at p a size) out (record { held = h; place = q; left = left; wrote = end; stopped = stops; change = changes-case.Nothing }) out′
+    → Saying (printed-at a (p .place .offset)) p (answered-at p a size) out (record { held = h; place = q; left = left; wrote = end; stopped = stops; laid = p .laid; change = changes-case.Nothing }) out′
 answering p a size s ends holds e o n l r =
-    put-is p s holds (same-passage changes-case.Nothing e (place-is (p .place) size o n) (l ∙ ap (λ (b : Bool). chosen b 0 (p .left - 1)) r) (end-is p s ends) r)
+    put-is p s holds (same-passage (p .laid) changes-case.Nothing e (place-is (p .place) size o n) (l ∙ ap (λ (b : Bool). chosen b 0 (p .left - 1)) r) (end-is p s ends) r)
 
 pub refusing : (p : Passage) (n : ℕ) {l : Line} {end : ℕ} {out out′ : List ℕ} → Says (refusal-text n (p .place .offset)) l → end ≡ p .wrote + length (said l)
     → out′ ≡ pasted (p .wrote) (said l) out
-    → Saying (refusal-text n (p .place .offset)) p (refused-at p n) out (record { held = p .held; place = p .place; left = 0; wrote = end; stopped = true; change = changes-case.Nothing }) out′
-refusing p n s ends holds = put-is p s holds (same-passage changes-case.Nothing refl refl refl (end-is p s ends) refl)
+    → Saying (refusal-text n (p .place .offset)) p (refused-at p n) out (record { held = p .held; place = p .place; left = 0; wrote = end; stopped = true; laid = p .laid; change = changes-case.Nothing }) out′
+refusing p n s ends holds = put-is p s holds (same-passage (p .laid) changes-case.Nothing refl refl refl (end-is p s ends) refl)
 
 -- a corner that is taken
 pub keeping : (p : Passage) (X Y : ℤ) (size : ℕ) {h : Held} {q : Place} → h ≡ no-held → q .offset ≡ (p .place .offset + size) % 2 ^ 64 → q .records ≡ (p .place .records + 1) % 2 ^ 64
-    → _≡_ {A = Passage} (record { held = h; place = q; left = p .left - 1; wrote = p .wrote; stopped = false; change = changes-case.Store X Y }) (storing p size X Y)
-keeping p X Y size e o n = same-passage (changes-case.Store X Y) e (place-is (p .place) size o n) refl refl refl
+    → _≡_ {A = Passage} (record { held = h; place = q; left = p .left - 1; wrote = p .wrote; stopped = false; laid = false; change = changes-case.Store X Y }) (storing p size X Y)
+keeping p X Y size e o n = same-passage false (changes-case.Store X Y) e (place-is (p .place) size o n) refl refl refl
 
 -- ---- what a byte makes of a passage
 -- the byte is put behind the held bytes, and what stands in them is read
@@ -170,19 +170,23 @@ module _ (p : Passage) (i : code.Record) (size : ℕ) {reply : replies.Reply} wh
   pub says-it : {a : answers.Answer} {out out′ : List ℕ} {p′ : Passage} → reply ≡ Say a → Saying (printed-at a (p .place .offset)) p (answered-at p a size) out p′ out′
       → Followed p i size reply out p′ out′
   says-it {a} e s = record {
-    turned = λ byte phase count laid counts numbers m r. record {
-      asked = rw (s .is) λ j g.
-          let t = promised e r .promised .steps j g in
-          passed j j (answered-at p a size) (m j) (answered-printed p size i j t) (answered-next p size i j t) (answered-run p size i j t) refl refl (s .short) (s .holds);
+    turned = λ byte phase count counts numbers m r. record {
+      asked = rw (s .is) (
+        refl,
+        λ j g.
+            let t = promised e r .promised .steps j g in
+            passed j j (answered-at p a size) (m j) (answered-printed p size i j t) (answered-next p size i j t) (answered-run p size i j t) refl refl (s .short) (s .holds),
+      );
     };
   }
 
   pub stores-it : {X Y : ℤ} {out : List ℕ} {p′ : Passage} → reply ≡ Store X Y → p′ ≡ storing p size X Y → Followed p i size reply out p′ out
   stores-it {X} {Y} {out} e s = record {
-    turned = λ byte phase count laid counts numbers m r.
+    turned = λ byte phase count counts numbers m r.
         let c = promised e r .promised in
         record {
           asked = rw s (
+            refl,
             c .1 .room refl,
             λ j g.
                 let t = c .1 .stores refl j g in
@@ -196,11 +200,11 @@ module _ (p : Passage) (i : code.Record) (size : ℕ) {reply : replies.Reply} wh
       none : (n : ℕ) → n ≡ n + 0
       none n = omega arith
 
-  pub lays-out : {out : List ℕ} {p′ : Passage} → reply ≡ LayOut → p′ ≡ asking p changes-case.LayOut → Followed p i size reply out p′ out
-  lays-out e s = record { turned = λ byte phase count laid counts numbers m r. record { asked = rw s (promised e r .promised, refl, refl) } }
+  pub lays-out : {out : List ℕ} {p′ : Passage} → reply ≡ LayOut → p′ ≡ asking p changes-case.LayOut true → Followed p i size reply out p′ out
+  lays-out e s = record { turned = λ byte phase count counts numbers m r. record { asked = rw s (promised e r .promised, refl, refl) } }
 
-  pub asks-it : {out : List ℕ} {p′ : Passage} → p′ ≡ asking p (changes-case.Take i size) → Followed p i size reply out p′ out
-  asks-it s = record { turned = λ byte phase count laid counts numbers m r. record { asked = rw s (refl, refl, m) } }
+  pub asks-it : {out : List ℕ} {p′ : Passage} → p′ ≡ asking p (changes-case.Take i size) false → Followed p i size reply out p′ out
+  asks-it s = record { turned = λ byte phase count counts numbers m r. record { asked = rw s (refl, refl, m) } }
 
 -- ---- any byte
 module _ {p : Passage} {byte : ℕ} {begun : Held} {found : reader.Read} (b : Begun p byte begun found) where
@@ -208,50 +212,56 @@ module _ {p : Passage} {byte : ℕ} {begun : Held} {found : reader.Read} (b : Be
   completes {i} {c} e j = whole-taken (run-of j p) byte begun found (b .goes) (b .held) (b .with) (b .read) i c e
 
   -- a record whose body is cut off still
-  pub waits-on : {phase : phases.Phase} {count : ℕ} {laid : Bool} {counts : List ℕ} {numbers : List ℤ} {out : List ℕ} {p′ : Passage} (n at : ℕ) → found ≡ Refused n at → n ≡ body-cut-off
-      → p′ ≡ awaiting p begun → Turned p byte phase count laid counts numbers out p′ out
+  pub waits-on : {phase : phases.Phase} {count : ℕ} {counts : List ℕ} {numbers : List ℤ} {out : List ℕ} {p′ : Passage} (n at : ℕ) → found ≡ Refused n at → n ≡ body-cut-off
+      → p′ ≡ awaiting p begun → Turned p byte phase count counts numbers out p′ out
   waits-on {out = out} n at e f g = record {
-    asked = rw g λ j h. record {
-      took = waits (run-of j p) begun;
-      makes = cut-taken (run-of j p) byte begun found (b .goes) (b .held) (b .with) (b .read) n at e f;
-      next = cut-waits (run-of j p) byte begun found (b .goes) (b .held) (b .with) (b .read) n at (b .long) (b .few) e f;
-      short = omega arith;
-      end = none (p .wrote);
-      holds = paste-zero out (p .wrote) [];
-      left-is = sym (ap (λ (b : Bool). chosen b 0 (p .left - 1)) (b .goes));
-    };
+    asked = rw g (
+      refl,
+      λ j h. record {
+        took = waits (run-of j p) begun;
+        makes = cut-taken (run-of j p) byte begun found (b .goes) (b .held) (b .with) (b .read) n at e f;
+        next = cut-waits (run-of j p) byte begun found (b .goes) (b .held) (b .with) (b .read) n at (b .long) (b .few) e f;
+        short = omega arith;
+        end = none (p .wrote);
+        holds = paste-zero out (p .wrote) [];
+        left-is = sym (ap (λ (b : Bool). chosen b 0 (p .left - 1)) (b .goes));
+      },
+    );
   }
     where
       none : (n : ℕ) → n ≡ n + 0
       none n = omega arith
 
   -- a record of no kind
-  pub refuses-it : {phase : phases.Phase} {count : ℕ} {laid : Bool} {counts : List ℕ} {numbers : List ℤ} {out out′ : List ℕ} {p′ : Passage} (n at : ℕ) → found ≡ Refused n at
-      → (n ≡ body-cut-off → ⊥) → Saying (refusal-text n (p .place .offset)) p (refused-at p n) out p′ out′ → Turned p byte phase count laid counts numbers out p′ out′
+  pub refuses-it : {phase : phases.Phase} {count : ℕ} {counts : List ℕ} {numbers : List ℤ} {out out′ : List ℕ} {p′ : Passage} (n at : ℕ) → found ≡ Refused n at
+      → (n ≡ body-cut-off → ⊥) → Saying (refusal-text n (p .place .offset)) p (refused-at p n) out p′ out′ → Turned p byte phase count counts numbers out p′ out′
   refuses-it n at e f s = record {
-    asked = rw (s .is) λ j g.
-        passed j j (refused-at p n) (unknown-taken (run-of j p) byte begun found (b .goes) (b .held) (b .with) (b .read) n at e f) refl refl refl refl refl (s .short) (s .holds);
+    asked = rw (s .is) (
+      refl,
+      λ j g.
+          passed j j (refused-at p n) (unknown-taken (run-of j p) byte begun found (b .goes) (b .held) (b .with) (b .read) n at e f) refl refl refl refl refl (s .short) (s .holds),
+    );
   }
 
   pub never-nothing : (j : Job) → found ≡ End → ⊥
   never-nothing j e = never-ends (run-of j p) byte begun found (b .goes) (b .held) (b .with) (b .read) e
 
 -- ---- a byte that was asked, by what it asks
-module _ {p : Passage} {byte : ℕ} {phase : phases.Phase} {count : ℕ} {laid : Bool} {counts : List ℕ} {numbers : List ℤ} {out out′ : List ℕ} {p′ : Passage} (t : Turned p byte phase count laid counts numbers out p′ out′) where
-  asked-at : {c : changes.Change} → p′ .change ≡ c → Asked p byte phase count laid counts numbers out p′ out′ c
-  asked-at e = subst (λ (c : changes.Change). Asked p byte phase count laid counts numbers out p′ out′ c) e (t .asked)
+module _ {p : Passage} {byte : ℕ} {phase : phases.Phase} {count : ℕ} {counts : List ℕ} {numbers : List ℤ} {out out′ : List ℕ} {p′ : Passage} (t : Turned p byte phase count counts numbers out p′ out′) where
+  asked-at : {c : changes.Change} → p′ .change ≡ c → Asked p byte phase count counts numbers out p′ out′ c
+  asked-at e = subst (λ (c : changes.Change). Asked p byte phase count counts numbers out p′ out′ c) e (t .asked)
 
-  pub kept-as : p′ .change ≡ changes-case.Nothing → (j : Job) → Stands phase count laid counts numbers j → Passing j p byte out j p′ out′
+  pub kept-as : p′ .change ≡ changes-case.Nothing → (p′ .laid ≡ p .laid) × ((j : Job) → Stands phase count (p .laid) counts numbers j → Passing j p byte out j p′ out′)
   kept-as e = asked-at e
 
   pub stored : {X Y : ℤ} → p′ .change ≡ changes-case.Store X Y
-      → (count < most phase) × ((j : Job) → Counts phase count j → Passing j p byte out (after-record (record-case.Corner X Y) j) p′ out′)
+      → (p′ .laid ≡ false) × (count < most phase) × ((j : Job) → Counts phase count j → Passing j p byte out (after-record (record-case.Corner X Y) j) p′ out′)
   stored e = asked-at e
 
-  pub unlaid-yet : p′ .change ≡ changes-case.LayOut → (laid ≡ false) × (p′ ≡ asking p changes-case.LayOut) × (out′ ≡ out)
+  pub unlaid-yet : p′ .change ≡ changes-case.LayOut → (p .laid ≡ false) × (p′ ≡ asking p changes-case.LayOut true) × (out′ ≡ out)
   unlaid-yet e = asked-at e
 
-  pub asked : {i : code.Record} {size : ℕ} → p′ .change ≡ changes-case.Take i size → (p′ ≡ asking p (changes-case.Take i size)) × (out′ ≡ out) × Completes p byte i size
+  pub asked : {i : code.Record} {size : ℕ} → p′ .change ≡ changes-case.Take i size → (p′ ≡ asking p (changes-case.Take i size) false) × (out′ ≡ out) × Completes p byte i size
   asked e = asked-at e
 
   pub answered : {i : code.Record} {size : ℕ} {j j′ : Job} {a : answers.Answer} {p″ : Passage} {out″ : List ℕ} → p′ .change ≡ changes-case.Take i size
@@ -259,7 +269,7 @@ module _ {p : Passage} {byte : ℕ} {phase : phases.Phase} {count : ℕ} {laid :
       → Passing j p byte out j′ p″ out″
   answered {i} {size} {j} {j′} {a} {p″} {out″} e s w =
       let h = asked e in
-      let v = subst (λ (o : List ℕ). Saying (printed-at a (p .place .offset)) (asking p (changes-case.Take i size)) (answered-at p a size) o p″ out″) (h .1)
+      let v = subst (λ (o : List ℕ). Saying (printed-at a (p .place .offset)) (asking p (changes-case.Take i size) false) (answered-at (asking p (changes-case.Take i size) false) a size) o p″ out″) (h .1)
       (subst (λ (q : Passage). Saying (printed-at a (q .place .offset)) q (answered-at q a size) out′ p″ out″) (h .0) w) in
       rw (v .is)
-      (passed j j′ (answered-at p a size) (h .2 j) (answered-printed p size i j s) (answered-next p size i j s) (answered-run p size i j s) refl refl (v .short) (v .holds))
+      (passed j j′ (answered-at (asking p (changes-case.Take i size) false) a size) (h .2 j) (answered-printed p size i j s) (answered-next p size i j s) (answered-run p size i j s) refl refl (v .short) (v .holds))

@@ -32,7 +32,7 @@ run-of j p = record { job = j; held = p .held; place = p .place; stopped = p .st
 
 -- ---- the passages that the calls make: a chunk of so many bytes is begun;
 abbrev pub starting : Run → ℕ → Passage
-starting run n = record { held = run .held; place = run .place; left = n; wrote = 0; stopped = false; change = Nothing }
+starting run n = record { held = run .held; place = run .place; left = n; wrote = 0; stopped = false; laid = false; change = Nothing }
 
 -- a whole record of `size` bytes is answered (after a refusal nothing is left of the chunk);
 abbrev pub answered-at : Passage → answers.Answer → ℕ → Passage
@@ -42,16 +42,17 @@ answered-at p a size = record {
   left = chosen (refuses a) 0 (p .left - 1);
   wrote = p .wrote + length (printed-at a (p .place .offset));
   stopped = refuses a;
+  laid = p .laid;
   change = Nothing;
 }
 
 -- a corner is taken;
 abbrev pub storing : Passage → ℕ → ℤ → ℤ → Passage
-storing p size X Y = record { held = no-held; place = place-after (p .place) size; left = p .left - 1; wrote = p .wrote; stopped = false; change = Store X Y }
+storing p size X Y = record { held = no-held; place = place-after (p .place) size; left = p .left - 1; wrote = p .wrote; stopped = false; laid = false; change = Store X Y }
 
 -- a record's body is cut off still;
 abbrev pub awaiting : Passage → Held → Passage
-awaiting p begun = record { held = begun; place = p .place; left = p .left - 1; wrote = p .wrote; stopped = p .stopped; change = Nothing }
+awaiting p begun = record { held = begun; place = p .place; left = p .left - 1; wrote = p .wrote; stopped = p .stopped; laid = p .laid; change = Nothing }
 
 -- a record is of no kind;
 abbrev pub refused-at : Passage → ℕ → Passage
@@ -61,12 +62,13 @@ refused-at p n = record {
   left = 0;
   wrote = p .wrote + length (refusal-text n (p .place .offset));
   stopped = true;
+  laid = p .laid;
   change = Nothing;
 }
 
--- or the job is asked first, and nothing is done
-abbrev pub asking : Passage → changes.Change → Passage
-asking p c = record { held = p .held; place = p .place; left = p .left; wrote = p .wrote; stopped = p .stopped; change = c }
+-- or the job is asked first, and nothing is done but that the rings count as laid out or not
+abbrev pub asking : Passage → changes.Change → Bool → Passage
+asking p c laid = record { held = p .held; place = p .place; left = p .left; wrote = p .wrote; stopped = p .stopped; laid = laid; change = c }
 
 -- ---- what the calls promise
 -- a text behind what was written, and the passage that comes back
@@ -97,18 +99,19 @@ Completes p byte i size = (j : Job)
 
 -- a byte, by what it asks of the job. Where it asks nothing, the byte is taken by the job as it is; a corner is to be stored; a query waits for the corners to be
 -- laid out; and a record that the job is to take is whole with this byte
-abbrev pub Asked : Passage → ℕ → phases.Phase → ℕ → Bool → List ℕ → List ℤ → List ℕ → Passage → List ℕ → changes.Change → Type 0
-Asked p byte phase count laid-out counts numbers out p′ out′ Nothing = (j : Job) → Stands phase count laid-out counts numbers j → Passing j p byte out j p′ out′
-Asked p byte phase count laid-out counts numbers out p′ out′ (Store X Y) =
-    (count < most phase) × ((j : Job) → Counts phase count j → Passing j p byte out (after-record (record-case.Corner X Y) j) p′ out′)
-Asked p byte phase count laid-out counts numbers out p′ out′ LayOut = (laid-out ≡ false) × (p′ ≡ asking p LayOut) × (out′ ≡ out)
-Asked p byte phase count laid-out counts numbers out p′ out′ (Take i size) =
-    (p′ ≡ asking p (Take i size)) × (out′ ≡ out) × Completes p byte i size
+abbrev pub Asked : Passage → ℕ → phases.Phase → ℕ → List ℕ → List ℤ → List ℕ → Passage → List ℕ → changes.Change → Type 0
+Asked p byte phase count counts numbers out p′ out′ Nothing =
+    (p′ .laid ≡ p .laid) × ((j : Job) → Stands phase count (p .laid) counts numbers j → Passing j p byte out j p′ out′)
+Asked p byte phase count counts numbers out p′ out′ (Store X Y) =
+    (p′ .laid ≡ false) × (count < most phase) × ((j : Job) → Counts phase count j → Passing j p byte out (after-record (record-case.Corner X Y) j) p′ out′)
+Asked p byte phase count counts numbers out p′ out′ LayOut = (p .laid ≡ false) × (p′ ≡ asking p LayOut true) × (out′ ≡ out)
+Asked p byte phase count counts numbers out p′ out′ (Take i size) =
+    (p′ ≡ asking p (Take i size) false) × (out′ ≡ out) × Completes p byte i size
 
-pub record Turned (p : Passage) (byte : ℕ) (phase : phases.Phase) (count : ℕ) (laid-out : Bool) (counts : List ℕ) (numbers : List ℤ) (out : List ℕ) (p′ : Passage) (out′ : List ℕ) : Type 0 where
-  pub asked : Asked p byte phase count laid-out counts numbers out p′ out′ (p′ .change)
+pub record Turned (p : Passage) (byte : ℕ) (phase : phases.Phase) (count : ℕ) (counts : List ℕ) (numbers : List ℤ) (out : List ℕ) (p′ : Passage) (out′ : List ℕ) : Type 0 where
+  pub asked : Asked p byte phase count counts numbers out p′ out′ (p′ .change)
 
 -- a whole record, by the reply to it: of every byte with which it is whole
 pub record Followed (p : Passage) (i : records.Record) (size : ℕ) (reply : replies.Reply) (out : List ℕ) (p′ : Passage) (out′ : List ℕ) : Type 0 where
-  pub turned : (byte : ℕ) (phase : phases.Phase) (count : ℕ) (laid-out : Bool) (counts : List ℕ) (numbers : List ℤ) → Completes p byte i size → Replied i phase count laid-out counts numbers reply
-      → Turned p byte phase count laid-out counts numbers out p′ out′
+  pub turned : (byte : ℕ) (phase : phases.Phase) (count : ℕ) (counts : List ℕ) (numbers : List ℤ) → Completes p byte i size → Replied i phase count (p .laid) counts numbers reply
+      → Turned p byte phase count counts numbers out p′ out′

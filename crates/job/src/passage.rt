@@ -29,13 +29,15 @@ pub enum Change {
     Take(Record, usize),
 }
 
-// The record that is begun and its place, how many bytes of the chunk are left, how many were written, whether a record was refused, and what the last byte asks.
+// The record that is begun and its place, how many bytes of the chunk are left, how many were written, whether a record was refused, whether the accepted rings are laid out for queries, and what
+// the last byte asks.
 pub struct Passage {
     pub held: Held,
     pub place: Place,
     pub left: usize,
     pub wrote: usize,
     pub stopped: bool,
+    pub laid: bool,
     pub change: Change,
 }
 
@@ -57,13 +59,12 @@ impl Passage {
         chunk: &[u8],
         phase: Phase,
         count: usize,
-        laid: bool,
         counts: &[u32],
         numbers: &[i64],
         out: &mut [u8],
     ) -> Passage
         requires { ⌜ (self .stopped ≡ false) × (0 < self .left) × (self .left ≤ length (now chunk)) × (self .wrote + 128 ≤ length (now out)) ⌝ }
-        ensures { λ r. ⌜ Turned self (getD (now (chunk .entry)) (length (now (chunk .entry)) - self .left) 0) phase count laid (now (counts .entry)) (now (numbers .entry)) (now (out .entry)) r (now (out .exit)) ⌝ }
+        ensures { λ r. ⌜ Turned self (getD (now (chunk .entry)) (length (now (chunk .entry)) - self .left) 0) phase count (now (counts .entry)) (now (numbers .entry)) (now (out .entry)) r (now (out .exit)) ⌝ }
     {
         let at = chunk.len() - self.left;
         let held = self.held;
@@ -71,7 +72,7 @@ impl Passage {
         let found = begun.read();
         match found {
             Read::Whole(item, cursor) => {
-                let reply = in_place::reply_to(item, phase, count, laid, counts, numbers);
+                let reply = in_place::reply_to(item, phase, count, self.laid, counts, numbers);
                 self.whole(item, cursor.at, reply, out)
             }
             Read::Refused(n, _) => {
@@ -92,13 +93,14 @@ impl Passage {
         match reply {
             Reply::Say(answer) => self.says(answer, size, out),
             Reply::Store(x, y) => self.stores(x, y, size),
-            Reply::LayOut => self.asks(Change::LayOut),
-            Reply::Take => self.asks(Change::Take(item, size)),
+            Reply::LayOut => self.asks(Change::LayOut, true),
+            Reply::Take => self.asks(Change::Take(item, size), false),
         }
     }
 
-    fn asks(self, change: Change) -> Passage
-        ensures { λ r. ⌜ r ≡ asking self change ⌝ }
+    // The job is asked first; what it then makes of its rings decides whether they are laid out.
+    fn asks(self, change: Change, laid: bool) -> Passage
+        ensures { λ r. ⌜ r ≡ asking self change laid ⌝ }
     {
         let held = self.held;
         let place = self.place;
@@ -108,6 +110,7 @@ impl Passage {
             left: self.left,
             wrote: self.wrote,
             stopped: self.stopped,
+            laid: laid,
             change: change,
         }
     }
@@ -124,6 +127,7 @@ impl Passage {
             left: self.left - 1,
             wrote: self.wrote,
             stopped: self.stopped,
+            laid: self.laid,
             change: Change::Nothing,
         }
     }
@@ -142,6 +146,7 @@ impl Passage {
             left: left_after(self.left, stops),
             wrote: end,
             stopped: stops,
+            laid: self.laid,
             change: Change::Nothing,
         }
     }
@@ -158,6 +163,7 @@ impl Passage {
             left: self.left - 1,
             wrote: self.wrote,
             stopped: false,
+            laid: false,
             change: Change::Store(x, y),
         }
     }
@@ -176,6 +182,7 @@ impl Passage {
             left: 0,
             wrote: end,
             stopped: true,
+            laid: self.laid,
             change: Change::Nothing,
         }
     }

@@ -152,21 +152,12 @@ impl Run {
         let mut passage = self.start(chunk.len());
         let mut counts = [0u32; 17];
         let mut numbers = [0i64; 6144];
-        let mut rings: usize = 0;
-        let mut end: usize = 0;
-        let mut laid_out = false;
         while passage.goes(out.len()) {
             let phase = job.phase;
             let count = job.count;
-            passage = passage.turn(
-                chunk,
-                phase,
-                count,
-                laid_out,
-                &counts[0..rings],
-                &numbers[0..end],
-                out,
-            );
+            let held = in_place::counts_held(job.rings);
+            let end = in_place::numbers_held(job.total);
+            passage = passage.turn(chunk, phase, count, &counts[0..held], &numbers[0..end], out);
             let change = passage.change;
             match change {
                 Change::Nothing => continue,
@@ -174,23 +165,17 @@ impl Run {
                     let place = in_place::corner_place(phase, job.total, count);
                     job.corners[place] = Corner { x: x, y: y };
                     job.count = count + 1;
-                    laid_out = false;
                     continue;
                 }
                 Change::LayOut => {
-                    let corners = job.corners;
                     counts = job.counts;
-                    numbers = in_place::lay_out(corners, job.total);
-                    rings = in_place::counts_held(job.rings);
-                    end = in_place::numbers_held(job.total);
-                    laid_out = true;
+                    numbers = in_place::lay_out(job.corners, job.total);
                     continue;
                 }
                 Change::Take(item, size) => {
                     let taken = job.take(item);
                     let answer = taken.answer;
                     job = taken.job;
-                    laid_out = false;
                     passage = passage.says(answer, size, out);
                     continue;
                 }
@@ -210,6 +195,7 @@ impl Run {
             left: length,
             wrote: 0,
             stopped: false,
+            laid: false,
             change: Change::Nothing,
         }
     }

@@ -69,7 +69,7 @@ same-length c = search needs
 
 returns-2 : tie.Need-returns-2
 returns-2 c =
-    c .before .before .whole .ensures .turned _ _ _ _ _ _ (completes (begun (c .before .before .before .before .before .before .before .before)) (c .before .before .before .before .before .before .found .given .1)) (c .before .before .before .before .reply-to .ensures)
+    c .before .before .whole .ensures .turned _ _ _ _ _ (completes (begun (c .before .before .before .before .before .before .before .before)) (c .before .before .before .before .before .before .found .given .1)) (c .before .before .before .before .reply-to .ensures)
 
 same-length-2 : tie.Need-same-length-2
 same-length-2 c = search needs

@@ -1,22 +1,22 @@
 -- `job::run::Run::take_bytes` meets its contract. The loop's invariant is `Turns`; the measure is what is left of the chunk, and whether the corners are still to be
 -- laid out. Assumes nothing.
-use mathlib.Core.Path.{_≡_, refl, sym}
+use mathlib.Core.Path.{_≡_, refl, ap}
 use Prim.Native.Nat.{ℕ, _+_, _*_}
 use native.Mathlib.Omega.{arith}
-use lib.ListN.{length}
 use mir.Facts.{toZ-ofZ}
+use Rattle.job.specs.declared.passage.Passage.{Passage}
 use Rattle.job.specs.Passages.{run-of}
-use Rattle.job.proofs.Looping.{begins, inside, within, as-long, still, ends, handed-back, unlaid, unmapped, Turns, keeps, kept-less, corner-room, stores, stored-less, lays-out, laid-less, asked-room, takes, taken-less}
+use Rattle.job.proofs.Looping.{begins, inside, within, as-long, still, ends, handed-back, unlaid, less-by, unmapped, Turns, keeps, kept-less, corner-room, stores, stored-less, lays-out, laid-less, asked-room, takes, taken-less}
+use Rattle.job_state.proofs.Limits.{few}
 use borrow.Author.Needs.{needs}
 use Rattle.job.proofs.run.Run.take_bytes.Statement.{statement}
 use Rattle.job.proofs.run.Run.take_bytes.Tie as tie
 
 abbrev Inv-loop : tie.InvT-loop
-Inv-loop chunk out₀ job₀ passage₀ counts₀ numbers₀ rings₀ end₀ laid-out₀ out job passage counts numbers rings end laid-out =
-    Turns (run-of job₀ passage₀) chunk out₀ out job passage counts numbers rings end laid-out
+Inv-loop chunk out₀ job₀ passage₀ counts₀ numbers₀ out job passage counts numbers = Turns (run-of job₀ passage₀) chunk out₀ out job passage counts numbers
 
 abbrev μ-loop : tie.MeasureT-loop
-μ-loop chunk out₀ job₀ passage₀ counts₀ numbers₀ rings₀ end₀ laid-out₀ out job passage counts numbers rings end laid-out = 2 * passage .left + unlaid laid-out
+μ-loop chunk out₀ job₀ passage₀ counts₀ numbers₀ out job passage counts numbers = 2 * passage .left + unlaid (passage .laid)
 
 start-requires : tie.Need-start-requires Inv-loop μ-loop
 start-requires c κs = search needs
@@ -24,16 +24,24 @@ start-requires c κs = search needs
 loop-holds : tie.Need-loop-holds Inv-loop μ-loop
 loop-holds c =
     let st = c .before .before .before .before in
-    let held : length (st .args .self .job .counts) ≡ 17 = unmapped _ (st .args .self .job .counts) (st .good .0 .1 .1 .0 .1 .1 .1 .0 .1 .0 .1) in
     record {
       along = begins (st .args .self) (st .args .chunk .now) (st .args .out .now) _ (c .start .ensures);
-      long = record { corners-long = unmapped _ (st .args .self .job .corners) (st .good .0 .1 .1 .0 .1 .1 .0 .1 .0 .1); counts-long = held };
-      room = record { counts-room = refl; numbers-room = refl; rings-held = omega arith; end-held = omega arith };
-      laid = λ e. absurd (let z : _≡_ {A = ℕ} 0 1 = cc in omega arith);
+      long = record {
+        corners-long = unmapped _ (st .args .self .job .corners) (st .good .0 .1 .1 .0 .1 .1 .0 .1 .0 .1);
+        counts-long = unmapped _ (st .args .self .job .counts) (st .good .0 .1 .1 .0 .1 .1 .1 .0 .1 .0 .1);
+      };
+      room = record { counts-room = refl; numbers-room = refl };
+      laid = λ e. absurd (let z : _≡_ {A = ℕ} 0 1 = cc (e, ap (λ (p : Passage). p .laid) (c .start .ensures)) in omega arith);
     }
 
 goes-requires : tie.Need-goes-requires Inv-loop μ-loop
 goes-requires c κs = inside (c .loop .inv .along)
+
+counts-held-requires : tie.Need-counts-held-requires Inv-loop μ-loop
+counts-held-requires c κs = search needs
+
+numbers-held-requires : tie.Need-numbers-held-requires Inv-loop μ-loop
+numbers-held-requires c κs = search needs
 
 sub-turn : tie.Need-sub-turn Inv-loop μ-loop
 sub-turn c = search needs
@@ -42,7 +50,7 @@ part-turn-start : tie.Need-part-turn-start Inv-loop μ-loop
 part-turn-start c = search needs
 
 part-turn-end : tie.Need-part-turn-end Inv-loop μ-loop
-part-turn-end c = let r = c .before .before .before .loop .inv .room in let a = r .counts-room in let b = r .rings-held in omega arith
+part-turn-end c = let a = c .before .before .before .before .before .loop .inv .room .counts-room in let b = few 17 (c .before .before .before .before .before .loop .job .rings) in let e = c .before .before .counts-held .ensures in omega arith
 
 sub-turn-2 : tie.Need-sub-turn-2 Inv-loop μ-loop
 sub-turn-2 c = search needs
@@ -51,30 +59,30 @@ part-turn-start-2 : tie.Need-part-turn-start-2 Inv-loop μ-loop
 part-turn-start-2 c = search needs
 
 part-turn-end-2 : tie.Need-part-turn-end-2 Inv-loop μ-loop
-part-turn-end-2 c = let r = c .before .before .before .before .before .loop .inv .room in let a = r .numbers-room in let b = r .end-held in omega arith
+part-turn-end-2 c = let a = c .before .before .before .before .before .before .before .loop .inv .room .numbers-room in let b = few 3072 (c .before .before .before .before .before .before .before .loop .job .total) in let e = c .before .before .before .numbers-held .ensures in omega arith
 
 turn-requires : tie.Need-turn-requires Inv-loop μ-loop
 turn-requires c κs =
-    let g = c .before .before .before .before .before .before .goes .ensures .0 (c .before .before .before .before .before .if1 .taken) in
-    (still (c .before .before .before .before .before .before .before .loop .inv .along) (g .0), g .0, within (c .before .before .before .before .before .before .before .loop .inv .along), g .1)
+    let g = c .before .before .before .before .before .before .before .before .goes .ensures .0 (c .before .before .before .before .before .before .before .if1 .taken) in
+    (still (c .before .before .before .before .before .before .before .before .before .loop .inv .along) (g .0), g .0, within (c .before .before .before .before .before .before .before .before .before .loop .inv .along), g .1)
 
 enum-told : tie.Need-enum-told Inv-loop μ-loop
 enum-told c = search needs
 
 loop-less : tie.Need-loop-less Inv-loop μ-loop
-loop-less c = let less = kept-less (c .before .before .before .before .before .before .before .before .before .before .before .before .loop .inv) (c .before .before .before .before .before .before .before .before .before .before .before .goes .ensures .0 (c .before .before .before .before .before .before .before .before .before .before .if1 .taken) .0) (c .before .before .before .before .before .before .before .before .before .before .before .goes .ensures .0 (c .before .before .before .before .before .before .before .before .before .before .if1 .taken) .1) (c .before .before .before .before .turn .ensures) (c .enum-told .given .1) in omega arith
+loop-less c = less-by (c .before .before .before .before .turn .result .laid) (c .before .before .before .before .before .before .before .before .before .before .before .before .before .before .loop .passage .laid) (kept-less (c .before .before .before .before .before .before .before .before .before .before .before .before .before .before .loop .inv) (c .before .before .before .before .before .before .before .before .before .before .before .before .before .goes .ensures .0 (c .before .before .before .before .before .before .before .before .before .before .before .before .if1 .taken) .0) (c .before .before .before .before .before .before .before .before .before .before .before .before .before .goes .ensures .0 (c .before .before .before .before .before .before .before .before .before .before .before .before .if1 .taken) .1) (c .before .before .before .before .before .before .before .before .before .before .before .counts-held .ensures) (c .before .before .before .before .before .before .before .before .before .before .numbers-held .ensures) (c .before .before .before .before .turn .ensures) (c .enum-told .given .1))
 
 loop-again : tie.Need-loop-again Inv-loop μ-loop
-loop-again c = keeps (c .before .before .before .before .before .before .before .before .before .before .before .before .loop .inv) (c .before .before .before .before .before .before .before .before .before .before .before .goes .ensures .0 (c .before .before .before .before .before .before .before .before .before .before .if1 .taken) .0) (c .before .before .before .before .before .before .before .before .before .before .before .goes .ensures .0 (c .before .before .before .before .before .before .before .before .before .before .if1 .taken) .1) (c .before .before .before .before .turn .ensures) (c .enum-told .given .1)
+loop-again c = keeps (c .before .before .before .before .before .before .before .before .before .before .before .before .before .before .loop .inv) (c .before .before .before .before .before .before .before .before .before .before .before .before .before .goes .ensures .0 (c .before .before .before .before .before .before .before .before .before .before .before .before .if1 .taken) .0) (c .before .before .before .before .before .before .before .before .before .before .before .before .before .goes .ensures .0 (c .before .before .before .before .before .before .before .before .before .before .before .before .if1 .taken) .1) (c .before .before .before .before .before .before .before .before .before .before .before .counts-held .ensures) (c .before .before .before .before .before .before .before .before .before .before .numbers-held .ensures) (c .before .before .before .before .turn .ensures) (c .enum-told .given .1)
 
 enum-known-change : tie.Need-enum-known-change Inv-loop μ-loop
 enum-known-change c = search needs
 
 corner-place-requires : tie.Need-corner-place-requires Inv-loop μ-loop
-corner-place-requires c κs = corner-room (c .before .before .before .before .before .before .before .before .before .before .before .before .before .loop .inv) (c .before .before .before .before .before .before .before .before .before .before .before .before .goes .ensures .0 (c .before .before .before .before .before .before .before .before .before .before .before .if1 .taken) .0) (c .before .before .before .before .before .before .before .before .before .before .before .before .goes .ensures .0 (c .before .before .before .before .before .before .before .before .before .before .before .if1 .taken) .1) (c .before .before .before .before .before .turn .ensures) (c .before .change .given .1)
+corner-place-requires c κs = corner-room (c .before .before .before .before .before .before .before .before .before .before .before .before .before .before .before .loop .inv) (c .before .before .before .before .before .before .before .before .before .before .before .before .before .before .goes .ensures .0 (c .before .before .before .before .before .before .before .before .before .before .before .before .before .if1 .taken) .0) (c .before .before .before .before .before .before .before .before .before .before .before .before .before .before .goes .ensures .0 (c .before .before .before .before .before .before .before .before .before .before .before .before .before .if1 .taken) .1) (c .before .before .before .before .before .before .before .before .before .before .before .before .counts-held .ensures) (c .before .before .before .before .before .before .before .before .before .before .before .numbers-held .ensures) (c .before .before .before .before .before .turn .ensures) (c .before .change .given .1)
 
-mul-t36 : tie.Need-mul-t36 Inv-loop μ-loop
-mul-t36 c = let r = c .corner-place .ensures .1 in search needs
+mul-t34 : tie.Need-mul-t34 Inv-loop μ-loop
+mul-t34 c = let r = c .corner-place .ensures .1 in search needs
 
 element-set-from-job : tie.Need-element-set-from-job Inv-loop μ-loop
 element-set-from-job c = c .corner-place .ensures .1
@@ -83,12 +91,12 @@ add-job : tie.Need-add-job Inv-loop μ-loop
 add-job c = let r = c .corner-place .ensures .1 in let e = c .corner-place .ensures .0 in record { fits = omega arith }
 
 loop-less-2 : tie.Need-loop-less-2 Inv-loop μ-loop
-loop-less-2 c = let less = stored-less (c .before .before .before .before .before .before .before .before .before .before .before .before .before .before .loop .inv) (c .before .before .before .before .before .before .before .before .before .before .before .before .before .goes .ensures .0 (c .before .before .before .before .before .before .before .before .before .before .before .before .if1 .taken) .0) (c .before .before .before .before .before .before .before .before .before .before .before .before .before .goes .ensures .0 (c .before .before .before .before .before .before .before .before .before .before .before .before .if1 .taken) .1) (c .before .before .before .before .before .before .turn .ensures) (c .before .before .change .given .1) in omega arith
+loop-less-2 c = less-by (c .before .before .before .before .before .before .turn .result .laid) (c .before .before .before .before .before .before .before .before .before .before .before .before .before .before .before .before .loop .passage .laid) (stored-less (c .before .before .before .before .before .before .before .before .before .before .before .before .before .before .before .before .loop .inv) (c .before .before .before .before .before .before .before .before .before .before .before .before .before .before .before .goes .ensures .0 (c .before .before .before .before .before .before .before .before .before .before .before .before .before .before .if1 .taken) .0) (c .before .before .before .before .before .before .before .before .before .before .before .before .before .before .before .goes .ensures .0 (c .before .before .before .before .before .before .before .before .before .before .before .before .before .before .if1 .taken) .1) (c .before .before .before .before .before .before .before .before .before .before .before .before .before .counts-held .ensures) (c .before .before .before .before .before .before .before .before .before .before .before .before .numbers-held .ensures) (c .before .before .before .before .before .before .turn .ensures) (c .before .before .change .given .1))
 
 loop-again-2 : tie.Need-loop-again-2 Inv-loop μ-loop
 loop-again-2 c =
     rw (toZ-ofZ (record { sfits = c .before .known-told .given .0 .1 }), toZ-ofZ (record { sfits = c .before .known-told .given .1 .0 .1 }), c .corner-place .ensures .0)
-    (stores (c .before .before .before .before .before .before .before .before .before .before .before .before .before .before .loop .inv) (c .before .before .before .before .before .before .before .before .before .before .before .before .before .goes .ensures .0 (c .before .before .before .before .before .before .before .before .before .before .before .before .if1 .taken) .0) (c .before .before .before .before .before .before .before .before .before .before .before .before .before .goes .ensures .0 (c .before .before .before .before .before .before .before .before .before .before .before .before .if1 .taken) .1) (c .before .before .before .before .before .before .turn .ensures) (c .before .before .change .given .1))
+    (stores (c .before .before .before .before .before .before .before .before .before .before .before .before .before .before .before .before .loop .inv) (c .before .before .before .before .before .before .before .before .before .before .before .before .before .before .before .goes .ensures .0 (c .before .before .before .before .before .before .before .before .before .before .before .before .before .before .if1 .taken) .0) (c .before .before .before .before .before .before .before .before .before .before .before .before .before .before .before .goes .ensures .0 (c .before .before .before .before .before .before .before .before .before .before .before .before .before .before .if1 .taken) .1) (c .before .before .before .before .before .before .before .before .before .before .before .before .before .counts-held .ensures) (c .before .before .before .before .before .before .before .before .before .before .before .before .numbers-held .ensures) (c .before .before .before .before .before .before .turn .ensures) (c .before .before .change .given .1))
 
 enum-told-2 : tie.Need-enum-told-2 Inv-loop μ-loop
 enum-told-2 c = search needs
@@ -96,17 +104,11 @@ enum-told-2 c = search needs
 lay-out-requires : tie.Need-lay-out-requires Inv-loop μ-loop
 lay-out-requires c κs = search needs
 
-counts-held-requires : tie.Need-counts-held-requires Inv-loop μ-loop
-counts-held-requires c κs = search needs
-
-numbers-held-requires : tie.Need-numbers-held-requires Inv-loop μ-loop
-numbers-held-requires c κs = search needs
-
 loop-less-3 : tie.Need-loop-less-3 Inv-loop μ-loop
-loop-less-3 c = laid-less (c .before .before .before .before .before .before .before .before .before .before .before .before .before .before .before .before .before .loop .inv) (c .before .before .before .before .before .before .before .before .before .before .before .before .before .before .before .before .goes .ensures .0 (c .before .before .before .before .before .before .before .before .before .before .before .before .before .before .before .if1 .taken) .0) (c .before .before .before .before .before .before .before .before .before .before .before .before .before .before .before .before .goes .ensures .0 (c .before .before .before .before .before .before .before .before .before .before .before .before .before .before .before .if1 .taken) .1) (c .before .before .before .before .before .before .before .before .before .turn .ensures) (c .before .before .before .before .before .enum-told2 .given .1)
+loop-less-3 c = laid-less (c .before .before .before .before .before .before .before .before .before .before .before .before .before .before .before .before .before .loop .inv) (c .before .before .before .before .before .before .before .before .before .before .before .before .before .before .before .before .goes .ensures .0 (c .before .before .before .before .before .before .before .before .before .before .before .before .before .before .before .if1 .taken) .0) (c .before .before .before .before .before .before .before .before .before .before .before .before .before .before .before .before .goes .ensures .0 (c .before .before .before .before .before .before .before .before .before .before .before .before .before .before .before .if1 .taken) .1) (c .before .before .before .before .before .before .before .before .before .before .before .before .before .before .counts-held .ensures) (c .before .before .before .before .before .before .before .before .before .before .before .before .before .numbers-held .ensures) (c .before .before .before .before .before .before .before .turn .ensures) (c .before .before .before .enum-told2 .given .1)
 
 loop-again-3 : tie.Need-loop-again-3 Inv-loop μ-loop
-loop-again-3 c = lays-out (c .before .before .before .before .before .before .before .before .before .before .before .before .before .before .before .before .before .loop .inv) (c .before .before .before .before .before .before .before .before .before .before .before .before .before .before .before .before .goes .ensures .0 (c .before .before .before .before .before .before .before .before .before .before .before .before .before .before .before .if1 .taken) .0) (c .before .before .before .before .before .before .before .before .before .before .before .before .before .before .before .before .goes .ensures .0 (c .before .before .before .before .before .before .before .before .before .before .before .before .before .before .before .if1 .taken) .1) (c .before .before .before .before .before .before .before .before .before .turn .ensures) (c .before .before .before .before .before .enum-told2 .given .1) (c .before .before .lay-out .ensures .0) (c .before .before .lay-out .ensures .1) (c .before .counts-held .ensures) (c .numbers-held .ensures)
+loop-again-3 c = lays-out (c .before .before .before .before .before .before .before .before .before .before .before .before .before .before .before .before .before .loop .inv) (c .before .before .before .before .before .before .before .before .before .before .before .before .before .before .before .before .goes .ensures .0 (c .before .before .before .before .before .before .before .before .before .before .before .before .before .before .before .if1 .taken) .0) (c .before .before .before .before .before .before .before .before .before .before .before .before .before .before .before .before .goes .ensures .0 (c .before .before .before .before .before .before .before .before .before .before .before .before .before .before .before .if1 .taken) .1) (c .before .before .before .before .before .before .before .before .before .before .before .before .before .before .counts-held .ensures) (c .before .before .before .before .before .before .before .before .before .before .before .before .before .numbers-held .ensures) (c .before .before .before .before .before .before .before .turn .ensures) (c .before .before .before .enum-told2 .given .1) (c .lay-out .ensures .0) (c .lay-out .ensures .1)
 
 enum-known-change-2 : tie.Need-enum-known-change-2 Inv-loop μ-loop
 enum-known-change-2 c = search needs
@@ -115,13 +117,13 @@ take-requires : tie.Need-take-requires Inv-loop μ-loop
 take-requires c κs = search needs
 
 says-requires : tie.Need-says-requires Inv-loop μ-loop
-says-requires c κs = asked-room (c .before .before .before .before .before .before .before .before .before .before .before .before .before .before .before .before .loop .inv) (c .before .before .before .before .before .before .before .before .before .before .before .before .before .before .before .goes .ensures .0 (c .before .before .before .before .before .before .before .before .before .before .before .before .before .before .if1 .taken) .0) (c .before .before .before .before .before .before .before .before .before .before .before .before .before .before .before .goes .ensures .0 (c .before .before .before .before .before .before .before .before .before .before .before .before .before .before .if1 .taken) .1) (c .before .before .before .before .before .before .before .before .turn .ensures) (c .before .before .before .before .change2 .given .1)
+says-requires c κs = asked-room (c .before .before .before .before .before .before .before .before .before .before .before .before .before .before .before .before .before .before .loop .inv) (c .before .before .before .before .before .before .before .before .before .before .before .before .before .before .before .before .before .goes .ensures .0 (c .before .before .before .before .before .before .before .before .before .before .before .before .before .before .before .before .if1 .taken) .0) (c .before .before .before .before .before .before .before .before .before .before .before .before .before .before .before .before .before .goes .ensures .0 (c .before .before .before .before .before .before .before .before .before .before .before .before .before .before .before .before .if1 .taken) .1) (c .before .before .before .before .before .before .before .before .before .before .before .before .before .before .before .counts-held .ensures) (c .before .before .before .before .before .before .before .before .before .before .before .before .before .before .numbers-held .ensures) (c .before .before .before .before .before .before .before .before .turn .ensures) (c .before .before .before .before .change2 .given .1)
 
 loop-less-4 : tie.Need-loop-less-4 Inv-loop μ-loop
-loop-less-4 c = let less = taken-less (c .before .before .before .before .before .before .before .before .before .before .before .before .before .before .before .before .before .before .before .loop .inv) (c .before .before .before .before .before .before .before .before .before .before .before .before .before .before .before .before .before .before .goes .ensures .0 (c .before .before .before .before .before .before .before .before .before .before .before .before .before .before .before .before .before .if1 .taken) .0) (c .before .before .before .before .before .before .before .before .before .before .before .before .before .before .before .before .before .before .goes .ensures .0 (c .before .before .before .before .before .before .before .before .before .before .before .before .before .before .before .before .before .if1 .taken) .1) (c .before .before .before .before .before .before .before .before .before .before .before .turn .ensures) (c .before .before .before .before .before .before .before .change2 .given .1) (c .before .before .before .before .before .take .ensures .0) (c .before .before .says .ensures) in omega arith
+loop-less-4 c = less-by (c .before .before .says .result .laid) (c .before .before .before .before .before .before .before .before .before .before .before .before .before .before .before .before .before .before .before .before .before .loop .passage .laid) (taken-less (c .before .before .before .before .before .before .before .before .before .before .before .before .before .before .before .before .before .before .before .before .before .loop .inv) (c .before .before .before .before .before .before .before .before .before .before .before .before .before .before .before .before .before .before .before .before .goes .ensures .0 (c .before .before .before .before .before .before .before .before .before .before .before .before .before .before .before .before .before .before .before .if1 .taken) .0) (c .before .before .before .before .before .before .before .before .before .before .before .before .before .before .before .before .before .before .before .before .goes .ensures .0 (c .before .before .before .before .before .before .before .before .before .before .before .before .before .before .before .before .before .before .before .if1 .taken) .1) (c .before .before .before .before .before .before .before .before .before .before .before .before .before .before .before .before .before .before .counts-held .ensures) (c .before .before .before .before .before .before .before .before .before .before .before .before .before .before .before .before .before .numbers-held .ensures) (c .before .before .before .before .before .before .before .before .before .before .before .turn .ensures) (c .before .before .before .before .before .before .before .change2 .given .1) (c .before .before .before .before .before .take .ensures .0) (c .before .before .says .ensures))
 
 loop-again-4 : tie.Need-loop-again-4 Inv-loop μ-loop
-loop-again-4 c = takes (c .before .before .before .before .before .before .before .before .before .before .before .before .before .before .before .before .before .before .before .loop .inv) (c .before .before .before .before .before .before .before .before .before .before .before .before .before .before .before .before .before .before .goes .ensures .0 (c .before .before .before .before .before .before .before .before .before .before .before .before .before .before .before .before .before .if1 .taken) .0) (c .before .before .before .before .before .before .before .before .before .before .before .before .before .before .before .before .before .before .goes .ensures .0 (c .before .before .before .before .before .before .before .before .before .before .before .before .before .before .before .before .before .if1 .taken) .1) (c .before .before .before .before .before .before .before .before .before .before .before .turn .ensures) (c .before .before .before .before .before .before .before .change2 .given .1) (c .before .before .before .before .before .take .ensures .0) (c .before .before .says .ensures)
+loop-again-4 c = takes (c .before .before .before .before .before .before .before .before .before .before .before .before .before .before .before .before .before .before .before .before .before .loop .inv) (c .before .before .before .before .before .before .before .before .before .before .before .before .before .before .before .before .before .before .before .before .goes .ensures .0 (c .before .before .before .before .before .before .before .before .before .before .before .before .before .before .before .before .before .before .before .if1 .taken) .0) (c .before .before .before .before .before .before .before .before .before .before .before .before .before .before .before .before .before .before .before .before .goes .ensures .0 (c .before .before .before .before .before .before .before .before .before .before .before .before .before .before .before .before .before .before .before .if1 .taken) .1) (c .before .before .before .before .before .before .before .before .before .before .before .before .before .before .before .before .before .before .counts-held .ensures) (c .before .before .before .before .before .before .before .before .before .before .before .before .before .before .before .before .before .numbers-held .ensures) (c .before .before .before .before .before .before .before .before .before .before .before .turn .ensures) (c .before .before .before .before .before .before .before .change2 .given .1) (c .before .before .before .before .before .take .ensures .0) (c .before .before .says .ensures)
 
 handed-requires : tie.Need-handed-requires Inv-loop μ-loop
 handed-requires c κs = within (c .before .before .loop .inv .along)
@@ -142,6 +144,8 @@ take-bytes-spec =
     start-requires
     loop-holds
     goes-requires
+    counts-held-requires
+    numbers-held-requires
     sub-turn
     part-turn-start
     part-turn-end
@@ -154,15 +158,13 @@ take-bytes-spec =
     loop-again
     enum-known-change
     corner-place-requires
-    mul-t36
+    mul-t34
     element-set-from-job
     add-job
     loop-less-2
     loop-again-2
     enum-told-2
     lay-out-requires
-    counts-held-requires
-    numbers-held-requires
     loop-less-3
     loop-again-3
     enum-known-change-2
