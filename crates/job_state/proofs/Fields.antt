@@ -3,7 +3,7 @@ use mathlib.Core.Path.{_≡_, refl, sym, ap, ap₂, _∙_}
 use mathlib.Core.Bool.{Bool, true, false, not}
 use mathlib.Core.Logic.{⊎-elim}
 use mathlib.Core.List.{List, [], _∷_, _++_}
-use Prim.Native.Nat.{ℕ, suc, _+_, _*_, _-_, _≤_, _<_}
+use Prim.Native.Nat.{ℕ, suc, _+_, _*_, _-_, _≤_}
 use native.Mathlib.Omega.{arith}
 use native.Mathlib.Decide.{decLt}
 use borrow.Author.Tests.{eq-eqb, eqb-true}
@@ -16,7 +16,6 @@ use Rattle.rules.specs.Rings.{Corner}
 use Rattle.rules.specs.Fields.{Field}
 use Rattle.rules.specs.RingAnswers.{ring-checks}
 use Rattle.rules.specs.FieldAnswers.{alone, with-ring, inner-checks, summed, cut, uneven, inner-read, rings-read, field-read}
-use Rattle.ring_corners.specs.Corners.{pairs}
 use Rattle.ring_checks.specs.Laws.Accept.{judgement}
 use Rattle.fields.specs.Laws.Inner.{seventeenth, too-long}
 

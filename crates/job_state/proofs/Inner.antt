@@ -2,7 +2,7 @@
 use mathlib.Core.Path.{_≡_, refl, sym, ap, _∙_}
 use mathlib.Core.Bool.{Bool, true, false, _||_}
 use mathlib.Core.List.{List, [], _∷_}
-use Prim.Native.Nat.{ℕ, suc, _+_, _*_, _-_, _≤_, _<_}
+use Prim.Native.Nat.{ℕ, _+_, _*_, _-_, _≤_, _<_}
 use native.Mathlib.Omega.{arith}
 use borrow.Author.Tests.{lt-leb, le-ltb}
 use lib.Dec.{ltb}
@@ -11,7 +11,7 @@ use lib.ListN.{length, take, drop, length-drop}
 use lib.Seq.{length-take-le}
 use Rattle.rules.specs.Rings.{Corner, line, edges, total, turning-number, area2}
 use Rattle.rules.specs.Refusals.{Answer, answered, refused, crossed-at, Passed, passed, _>>=_, _>>_, _if_, in-ring, corner-count, span-too-large, badly-placed}
-use Rattle.rules.specs.RingAnswers.{count-bad, any-bad, span-bad, not-crossed, ring-checks, area-answer, crossing-answer}
+use Rattle.rules.specs.RingAnswers.{count-bad, any-bad, span-bad, not-crossed, area-answer, crossing-answer}
 use Rattle.rules.specs.Fields.{Field}
 use Rattle.rules.specs.Placing.{any-meet, rings-meet, first-outside, entangled-any, misplaced}
 use Rattle.rules.specs.FieldAnswers.{alone, with-ring, inner-count-bad, inner-checks, placed, field-read, join-answer}

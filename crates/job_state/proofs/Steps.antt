@@ -7,7 +7,7 @@ use Prim.Native.Nat.{ℕ, suc, _+_, _-_, _*_, _^_, _≤_, _<_}
 use native.Mathlib.Numerals.{add-one}
 use native.Mathlib.Omega.{arith}
 use borrow.Author.Tests.{le-leb, lt-leb}
-use lib.Dec.{leb, ltb}
+use lib.Dec.{leb}
 use lib.IntN.{ℤ}
 use lib.Signed.{mag}
 use mir.Syntax.{w64}
@@ -49,7 +49,7 @@ use Rattle.job_state.specs.declared.state.Taken.{Taken}
 use Rattle.job_state.proofs.Limits.{few, count-kept, no-room, below, take-length, counts-part, numbers-part, ring-length, same-ring, ring-more, rings-stay}
 use Rattle.job_state.proofs.Flat.{flat-append, flat-length, ring-split, ring-within, judged-passes}
 use Rattle.job_state.proofs.Fields.{read-size, read-more, read-one}
-use Rattle.job_state.proofs.Inner.{Joined, judged-joins}
+use Rattle.job_state.proofs.Inner.{judged-joins}
 use Rattle.job_state.specs.Gathered.{chosen, at, at-most, ring-of, ring-from, flat, corner-refused, judged, inner-judged, field-or-none, judged-paper}
 use Rattle.job_state.specs.States.{gathers, most, rings-before, starting, gathered-count, gathered-ring, field-of, field-before, accepted-by, view-by, view, line, paper, query-said, point-said, stepped, joined-job, after-record, left, Stepping}
 

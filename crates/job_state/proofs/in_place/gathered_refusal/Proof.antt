@@ -1,7 +1,6 @@
 -- `job_state::in_place::gathered_refusal` meets its contract. Assumes nothing.
 use mathlib.Core.Path.{refl}
 use mathlib.Core.Path.{sym, ap, _∙_}
-use native.Mathlib.Omega.{arith}
 use borrow.Author.Tests.{le-leb, lt-leb}
 use mir.Facts.{toZ-ofZ}
 use Rattle.rules.specs.RingAnswers.{number-bad}

@@ -1,5 +1,5 @@
 -- `job_state::in_place::query_answer` meets its contract. Assumes nothing.
-use mathlib.Core.Path.{refl, _≡_}
+use mathlib.Core.Path.{_≡_}
 use native.Mathlib.Omega.{arith}
 use Prim.Native.Nat.{ℕ}
 use Rattle.records.specs.declared.Record.the-variants.{Query}

@@ -1,7 +1,7 @@
 -- `job_state::ring::judge_beside` meets its contract. Assumes nothing.
 use mathlib.Core.Path.{refl}
-use mathlib.Core.Path.{ap, sym, _∙_}
-use Prim.Native.Nat.{_-_, _<_}
+use mathlib.Core.Path.{ap, _∙_}
+use Prim.Native.Nat.{_-_}
 use lib.IntN.{ℤ}
 use mathlib.Core.List.{List}
 use lib.ListN.{length, take, drop}

@@ -1,6 +1,4 @@
 -- `job_state::ring::starting` meets its contract. Assumes nothing.
-use mathlib.Core.Path.{ap, sym, _∙_}
-use Rattle.job_state.specs.declared.state.Phase.{Phase}
 use Rattle.job_state.specs.States.{starting}
 use borrow.Author.Needs.{needs}
 use Rattle.job_state.proofs.ring.starting.Statement.{statement}

@@ -1,15 +1,11 @@
 -- `job_state::state::Job::accept_inner` meets its contract. Assumes nothing.
 use Rattle.job_state.proofs.Steps.{inner-told, joined-as}
-use mathlib.Core.Path.{_≡_, ap, sym, _∙_}
-use Prim.Native.Nat.{ℕ}
+use mathlib.Core.Path.{_≡_, _∙_}
 use native.Mathlib.Omega.{arith}
 use lib.ListN.{length}
 use mir.Facts.{toZ-ofZ}
 use Rattle.projection.specs.Worked.{worked-forward}
-use Rattle.rules.specs.FieldAnswers.{field-read}
-use lib.ListN.{take}
-use Rattle.job_state.specs.Gathered.{ring-of, ring-from, flat, field-or-none, inner-judged}
-use Rattle.job_state.specs.States.{joined-job, gathered-ring, field-before}
+use Rattle.job_state.specs.States.{gathered-ring, field-before}
 use Rattle.job_state.specs.declared.state.Phase.the-variants.{Inner}
 use Rattle.job_state.proofs.Limits.{unmapped, few}
 use Rattle.job_state.proofs.Steps.{inner-printed, inner-closes, inner-accepts, refuses, crosses}

@@ -3,11 +3,9 @@ use lib.ListN.{take}
 use Rattle.fields.specs.Laws.Reading.{read-checked}
 use Rattle.job_state.specs.Gathered.{flat, ring-of}
 use Rattle.job_state.proofs.Steps.{stepping-at, refusing, read-held, inner-none, inner-full, inner-begins}
-use mathlib.Core.Path.{_≡_, ap, sym, _∙_}
-use Prim.Native.Nat.{ℕ}
+use mathlib.Core.Path.{_≡_}
 use native.Mathlib.Omega.{arith}
 use lib.ListN.{length}
-use mir.Facts.{toZ-ofZ}
 use Rattle.projection.specs.Worked.{worked-forward}
 use Rattle.job_state.proofs.Limits.{unmapped, few}
 use borrow.Author.Needs.{needs}

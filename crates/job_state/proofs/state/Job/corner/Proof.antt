@@ -1,8 +1,7 @@
 -- `job_state::state::Job::corner` meets its contract. Assumes nothing.
 use Rattle.job_state.proofs.Limits.{unmapped}
-use mathlib.Core.Path.{_≡_, refl, sym, ap, _∙_}
+use mathlib.Core.Path.{refl}
 use native.Mathlib.Omega.{arith}
-use lib.ListN.{length}
 use Rattle.projection.specs.Worked.{worked-forward}
 use Rattle.records.specs.declared.Record.the-variants as record-case
 use Rattle.job_state.specs.States.{stepped, view}

@@ -1,5 +1,5 @@
 -- `job_state::state::Job::query` meets its contract. Assumes nothing.
-use mathlib.Core.Path.{_≡_, refl, sym}
+use mathlib.Core.Path.{_≡_, refl}
 use native.Mathlib.Omega.{arith}
 use lib.ListN.{length}
 use Rattle.projection.specs.Worked.{worked-forward}
