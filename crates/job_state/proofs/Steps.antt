@@ -22,7 +22,7 @@ use Rattle.rules.specs.Rings as ring
 use Rattle.rules.specs.Fields as fields
 use Rattle.rules.specs.Fields.{field-nozzle}
 use Rattle.rules.specs.FieldAnswers.{alone, with-ring, inner-count-bad, placed, field-read, field-position-answer}
-use Rattle.rules.specs.Laws.Fields.{placed-is}
+use Rattle.rules.specs.Laws.AcceptedFields.{placed-is}
 use Rattle.rules.specs.RingAnswers as nozzles
 use Rattle.rules.specs.RingAnswers.{number-bad, count-bad, span-bad, not-crossed}
 use Rattle.rules.specs.JobFile.{State, no-field, gathering, accepted, gathering-inner, Step, silent, print, begun, gathered, cornered, inner-cornered, closed, inner-closed, inner-begun, queried, pointed}

@@ -58,7 +58,7 @@ unfoldable pub rings-accepted : List (List ℤ) → Answer Field
 rings-accepted [] = refused corner-count
 rings-accepted (numbers ∷ rest) = outer-accepted numbers >>= λ f. inner-accepted f rest
 
--- ---- the numbers of each ring. "counts that do not add up to just the numbers lent .. are 6 before all else"
+-- ---- the numbers of each ring. Counts that do not add up to just the numbers are 6 before all else, as no ring at all is (a reading: docs/DECISIONS.md, 22)
 unfoldable pub summed : List ℕ → ℕ
 summed [] = 0
 summed (n ∷ counts) = n + summed counts

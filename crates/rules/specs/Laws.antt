@@ -10,6 +10,8 @@
 -- Signs, Sums, Lines, SameTurning, Demand: demand 3. Numbers: P1 to P12. Edges: edge k. Meeting, Folding, Pairs: the crossing test answers by the rule.
 -- Outside: a point beyond all corners of a ring has turning number 0 there.
 -- Looked: the pairs of edges in their order, how many there are, and the place of each.
+-- OnEdge: a whole point of an edge. Placing: the test of where an inner ring lies answers by the rule, and one corner decides.
+-- Fields: the nozzle rule over a field's rings, ring by ring. AcceptedFields: a field that is accepted is read so, and its inner rings are well placed.
 pub mod Codes
 pub mod Checks
 pub mod RingChecks
@@ -34,6 +36,7 @@ pub mod Folding
 pub mod OnEdge
 pub mod Placing
 pub mod Fields
+pub mod AcceptedFields
 pub mod Pairs
 pub mod Looked
 pub mod Tried

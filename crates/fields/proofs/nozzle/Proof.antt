@@ -2,7 +2,7 @@
 use mathlib.Core.Path.{_≡_, sym, _∙_, ap}
 use Rattle.rules.specs.Rings.{Corner}
 use Rattle.rules.specs.FieldAnswers.{accept-answer, field-position-answer}
-use Rattle.rules.specs.Laws.Fields.{position-is-field-nozzle, nozzle-refused, nozzle-crossed}
+use Rattle.rules.specs.Laws.AcceptedFields.{position-is-field-nozzle, nozzle-refused, nozzle-crossed}
 use Rattle.ring_corners.specs.Laws.Signed.{raw-is}
 use Rattle.fields.specs.Answers.{field-paper}
 use Rattle.fields.specs.declared.FieldAnswer.{FieldAnswer}

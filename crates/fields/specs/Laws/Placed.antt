@@ -16,7 +16,7 @@ use Rattle.rules.specs.RingAnswers.{ring-checks, not-crossed}
 use Rattle.rules.specs.Fields.{Field}
 use Rattle.rules.specs.Placing.{misplaced}
 use Rattle.rules.specs.FieldAnswers.{alone, with-ring, inner-checks, placed, summed, cut, outer-accepted, inner-accepted, rings-accepted, inner-read, rings-read}
-use Rattle.rules.specs.Laws.Fields.{placed-is}
+use Rattle.rules.specs.Laws.AcceptedFields.{placed-is}
 use Rattle.ring_corners.specs.Corners.{pairs, Accepted}
 use Rattle.ring_checks.specs.Laws.Accept.{judgement}
 use Rattle.fields.specs.Placed.{as-field, one-more, the-rest}

@@ -76,7 +76,7 @@ pub record Ponds : Type 0 where
   pub sixteenth : pond-position 16 ≡ answered open-nozzle
   pub seventeenth : pond-position 17 ≡ refused 16
   pub seventeenth-empty : field-position-answer (ponds 16 ++ (0 ∷ [])) (ponds-numbers (square ∷ replicate 16 pond)) (at 500 500) ≡ refused 16
-  -- "counts that do not add up to just the numbers lent, and no ring at all, are 6 before all else"
+  -- counts that do not add up to just the numbers, and no ring at all, are 6 before all else
   pub left-over : accept-answer (4 ∷ []) (with-one pond) ≡ refused 6
   pub too-few : accept-answer (4 ∷ 5 ∷ []) (with-one pond) ≡ refused 6
   pub no-ring : accept-answer [] [] ≡ refused 6

@@ -5,22 +5,17 @@ use mathlib.Core.Logic.{⊎-elim}
 use mathlib.Core.List.{List}
 use Prim.Native.Nat.{ℕ, _<_, _≤_}
 use native.Mathlib.Omega.{arith}
-use lib.IntN.{ℤ, pos}
+use lib.IntN.{ℤ}
 use lib.ListN.{length}
-use mir.Syntax.{w64}
-use mir.Val.{toZ}
-use mir.Facts.{toZ-pos}
 use Rattle.rules.specs.Refusals.{CrossedPair, Answer, answered, refused, crossed-at, _>>=_, _>>_}
 use Rattle.rules.specs.Rings.{Corner, edge-pairs}
 use Rattle.rules.specs.RingAnswers.{ring-checks, not-crossed, crossing-answer, nozzle, nozzle-answer}
+-- a number below a million as an i64
+pub use Rattle.terminal_fields.specs.Laws.Nine.{small-is}
 use Rattle.rules.specs.Laws.Looked.{half, few, place-most}
 use Rattle.rules.specs.Laws.RingChecks.{nine, clean}
 use Rattle.rings.specs.Corners.{pairs}
 use Rattle.rings.specs.Laws.Accept.{judgement}
-
--- ---- a number below a million as an i64
-pub small-is : {n : ℕ} → n < 1_000_000 → toZ w64 n ≡ pos n
-small-is h = toZ-pos w64 (omega arith)
 
 pub record NineNumbers (pair : CrossedPair) : Type 0 where
   pub low : pair .low < 1_000_000

@@ -6,6 +6,8 @@ use lib.IntN.{ℤ}
 use Rattle.rules.specs.Refusals.{Answer, answered, refused, crossed-at}
 use Rattle.rules.specs.Conversion.{verdict}
 use Rattle.rings.specs.Answers.{refusal-of}
+-- four equal numbers
+pub use Rattle.terminal_fields.specs.Laws.Handed.{four-same}
 use Rattle.terminal.specs.Lent.{lent, edges-lent, pairs-lent, looked-lent}
 
 -- ---- both promises of a call at once, by the answer that the library gave
@@ -34,9 +36,6 @@ one-same e = ap (λ x. x ∷ []) e
 
 pub two-same : {a b a′ b′ : ℤ} → a ≡ a′ → b ≡ b′ → a ∷ b ∷ [] ≡ a′ ∷ b′ ∷ []
 two-same e f = ap₂ (λ x y. x ∷ y ∷ []) e f
-
-pub four-same : {a b c d a′ b′ c′ d′ : ℤ} → a ≡ a′ → b ≡ b′ → c ≡ c′ → d ≡ d′ → a ∷ b ∷ c ∷ d ∷ [] ≡ a′ ∷ b′ ∷ c′ ∷ d′ ∷ []
-four-same e f g h = ap₂ (λ x l. x ∷ l) e (ap₂ (λ x l. x ∷ l) f (two-same g h))
 
 -- ---- a ring conversion's verdict has its refusal's number
 pub verdict-number : (a : Answer (List ℤ)) → refusal-of (verdict a) ≡ refusal-of a
