@@ -39,21 +39,11 @@ def seconds(program, job):
     return best, last
 
 
-def circle(corners, x, y, radius):
-    """The records of a ring's corners on a circle, and its closing."""
-    turns = [2 * math.pi * k / corners for k in range(corners)]
-    return b"".join(struct.pack("<B2q", 2, x + round(radius * math.cos(t)), y + round(radius * math.sin(t))) for t in turns) + b"\x03"
-
-
 def ring(corners):
     """A field in system 3 with its corners on a circle of 2 km."""
-    return struct.pack("<BB", 1, 3) + circle(corners, 5_600_000_000, 5_500_000_000, 2_000_000)
-
-
-def ponds(corners):
-    """Sixteen round ponds in four rows, for the field of `ring`."""
-    places = [(x, y) for x in (-900_000, -300_000, 300_000, 900_000) for y in (-900_000, -300_000, 300_000, 900_000)]
-    return b"".join(b"\x06" + circle(corners, 5_600_000_000 + x, 5_500_000_000 + y, 200_000) for x, y in places)
+    turns = [2 * math.pi * k / corners for k in range(corners)]
+    places = [(5_600_000_000 + round(2e6 * math.cos(t)), 5_500_000_000 + round(2e6 * math.sin(t))) for t in turns]
+    return struct.pack("<BB", 1, 3) + b"".join(struct.pack("<B2q", 2, x, y) for x, y in places) + b"\x03"
 
 
 def nozzles(count):
@@ -78,14 +68,8 @@ def main():
     for corners in (16, 64, 256, 1024):
         rings = 65_536 // corners
         show(program, "rings", corners, "corners", rings * (corners + 2), ring(corners) * rings)
-    for corners in (4, 16, 128):
-        fields = 4_096 // corners
-        show(program, "fields of 16 corners with 16 ponds", corners, "corners a pond", fields * (18 + 16 * (corners + 2)), (ring(16) + ponds(corners)) * fields)
     for corners in (16, 64, 256, 1024):
         show(program, "nozzle queries", corners, "corners", corners + 2 + 50_000, ring(corners) + nozzles(50_000))
-    for corners in (4, 128):
-        job = ring(16) + ponds(corners) + nozzles(50_000)
-        show(program, "nozzle queries in a field of 16 corners with 16 ponds", corners, "corners a pond", 18 + 16 * (corners + 2) + 50_000, job)
     for records in (1_000, 10_000, 100_000):
         show(program, "points to the plane", records, "records", records, points(records))
 

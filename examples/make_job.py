@@ -8,7 +8,6 @@ A line is one record; `#` starts a comment, and an empty line is passed over:
     field CODE            begin a field in the system CODE
     corner X Y            a corner, X north and Y east
     close                 close the ring
-    inner                 begin an inner ring of the field, a pond or a barn: its corners and its close follow
     nozzle X Y            ask for a nozzle
     point CODE B L        latitude and longitude to the plane of the system CODE
 
@@ -48,8 +47,8 @@ def record(words):
         return struct.pack("<BB", 1, int(rest[0]))
     if kind in ("corner", "nozzle") and len(rest) == 2:
         return struct.pack("<B2q", 2 if kind == "corner" else 4, length(rest[0]), length(rest[1]))
-    if kind in ("close", "inner") and not rest:
-        return struct.pack("<B", 3 if kind == "close" else 6)
+    if kind == "close" and not rest:
+        return struct.pack("<B", 3)
     if kind == "point" and len(rest) == 3:
         return struct.pack("<BB2q", 5, int(rest[0]), angle(rest[1]), angle(rest[2]))
     raise ValueError("no record is written so")

@@ -1,9 +1,9 @@
-"""The job file by documents 01 and 02 (i): from the bytes of a file to the bytes that the field program prints.
+"""The job file by document 01: from the bytes of a file to the bytes that the field program prints.
 
     python3 reference/job.py JOB            prints what the field program has to print
 
-Fields with their inner rings are answered by fields.py and points by projection.py, rounded to the nearest whole number. Near a tie a program may round a point
-either way; `run` says so, and the makers keep such files out. Assumes Python 3.9 or newer and its standard library.
+Rings are answered by rings.py and points by projection.py, rounded to the nearest whole number. Near a tie a program may round a point either way; `run` says
+so, and the makers keep such files out. Assumes Python 3.9 or newer and its standard library.
 """
 
 import struct
@@ -11,19 +11,17 @@ import sys
 from decimal import Decimal
 from pathlib import Path
 
-import fields
 import projection
 import rings
 from systems import SYSTEMS
 
-BODY_LENGTH = {1: 1, 2: 16, 3: 0, 4: 16, 5: 17, 6: 0}
-BEGIN, CORNER, CLOSE, QUERY, POINT, INNER = 1, 2, 3, 4, 5, 6
+BODY_LENGTH = {1: 1, 2: 16, 3: 0, 4: 16, 5: 17}
+BEGIN, CORNER, CLOSE, QUERY, POINT = 1, 2, 3, 4, 5
 TIE_MARGIN = Decimal("0.01")
 
-# Where a job stands: no field, a field's outer ring being gathered, an accepted field, an inner ring of it being gathered
-NONE, GATHERING, ACCEPTED, GATHERING_INNER = "none", "gathering", "accepted", "gathering an inner ring"
-IN_A_RING = (GATHERING, GATHERING_INNER)
-PLACES = {BEGIN: (NONE, ACCEPTED), CORNER: IN_A_RING, CLOSE: IN_A_RING, QUERY: (ACCEPTED,), POINT: (NONE, ACCEPTED), INNER: (ACCEPTED,)}
+# Where a job stands: no field, a field being gathered, an accepted field
+NONE, GATHERING, ACCEPTED = "none", "gathering", "accepted"
+PLACES = {BEGIN: (NONE, ACCEPTED), CORNER: (GATHERING,), CLOSE: (GATHERING,), QUERY: (ACCEPTED,), POINT: (NONE, ACCEPTED)}
 
 
 def near_a_tie(value):
@@ -37,54 +35,42 @@ class Refused(Exception):
 
 
 class Job:
-    """One pass over a file. `rings` are those of the accepted field, the outer one first, and `corners` those of the ring being gathered. `lines` are those
-    printed so far; `certain` falls where a point lies near a tie."""
+    """One pass over a file. `lines` are those printed so far; `certain` falls where a point lies near a tie."""
 
     def __init__(self):
-        self.place, self.code, self.field, self.rings, self.corners = NONE, None, None, [], []
+        self.place, self.code, self.corners = NONE, None, []
         self.lines, self.certain = [], True
 
     def take(self, kind, body):
         if self.place not in PLACES[kind]:
             raise Refused(13)
-        own = {BEGIN: self.begin, CORNER: self.corner, CLOSE: self.close, QUERY: self.query, POINT: self.point, INNER: self.begin_inner}
-        own[kind](body)
+        {BEGIN: self.begin, CORNER: self.corner, CLOSE: self.close, QUERY: self.query, POINT: self.point}[kind](body)
 
     def begin(self, body):
         if body[0] not in SYSTEMS:
             raise Refused(1)
-        # The old field goes with all its rings.
-        self.place, self.code, self.field, self.rings, self.corners = GATHERING, body[0], None, [], []
-
-    def begin_inner(self, _):
-        if len(self.rings) == 1 + fields.MOST_INNER_RINGS:
-            raise Refused(16)
-        self.place, self.corners = GATHERING_INNER, []
+        self.place, self.code, self.corners = GATHERING, body[0], []
 
     def corner(self, body):
         X, Y = struct.unpack("<2q", body)
-        if len(self.corners) == (fields.MOST_INNER_CORNERS if self.place == GATHERING_INNER else rings.MOST_CORNERS):
+        if len(self.corners) == rings.MOST_CORNERS:
             raise Refused(6)
         if abs(X) > rings.LARGEST_NUMBER or abs(Y) > rings.LARGEST_NUMBER:
             raise Refused(7)
         self.corners.append((X, Y))
 
     def close(self, _):
-        """The field is judged with this ring as its last. The rings before it passed, so a refusal is its own: 6, 8, 9, and of an inner one 15."""
-        gathered = self.rings + [self.corners]
-        field = fields.Field(*fields.of_rings(*gathered))
-        if field.accept != "ok":
-            # Of 9 the call answers the ring, the two edges and the pairs looked at. The job prints the edges alone.
-            number, *found = map(int, field.accept.split())
-            raise Refused(number, tuple(found[1:3]))
-        place = len(self.rings)
-        self.place, self.field, self.rings = ACCEPTED, field, gathered
-        name = "inner %d" % place if place else "field %d" % self.code
-        self.lines.append("%s corners %d area2 %d" % (name, len(self.corners), rings.area2(self.corners)))
+        ring = rings.Ring([number for corner in self.corners for number in corner])
+        if ring.refusal:
+            raise Refused(ring.refusal)
+        if ring.pair:
+            raise Refused(9, ring.pair)
+        self.place = ACCEPTED
+        self.lines.append("field %d corners %d area2 %d" % (self.code, len(self.corners), ring.area2))
 
     def query(self, body):
         X, Y = struct.unpack("<2q", body)
-        self.lines.append("nozzle %d %d %s" % (X, Y, self.field.nozzle((X, Y))))
+        self.lines.append("nozzle %d %d %s" % (X, Y, rings.position(self.corners, (X, Y))))
 
     def point(self, body):
         code, B, L = body[0], *struct.unpack("<2q", body[1:])
@@ -114,7 +100,7 @@ def run(file):
             kind, body = record_at(file, offset)
             job.take(kind, body)
             offset, count = offset + 1 + len(body), count + 1
-        if job.place in IN_A_RING:
+        if job.place == GATHERING:
             raise Refused(13)
         job.lines.append("end %d" % count)
     except Refused as refused:
@@ -146,21 +132,8 @@ def point(code, B, L):
     return struct.pack("<BB2q", POINT, code, B, L)
 
 
-def begin_inner():
-    return bytes((INNER,))
-
-
-def ring(corners):
-    """The corners and the record that closes their ring."""
-    return b"".join(corner(X, Y) for X, Y in corners) + close()
-
-
 def field(code, corners):
-    return begin(code) + ring(corners)
-
-
-def inner(corners):
-    return begin_inner() + ring(corners)
+    return begin(code) + b"".join(corner(X, Y) for X, Y in corners) + close()
 
 
 def worked():
@@ -176,31 +149,12 @@ def worked():
     return file, field(1, bow) + queries
 
 
-def worked_pond():
-    """The square of document 01 with a pond, anticlockwise: doubled area -80,000. Its kind 6 is byte 71, its kind 3 byte 140."""
-    square, pond = ((0, 0), (1000, 0), (1000, 1000), (0, 1000)), ((200, 200), (200, 400), (400, 400), (400, 200))
-    asked = query(300, 300) + query(200, 300) + query(199, 300) + query(500, 500) + query(0, 500) + query(1500, 300)
-    file = field(1, square) + inner(pond) + asked
-    said = b"field 1 corners 4 area2 2000000\ninner 1 corners 4 area2 -80000\nnozzle 300 300 shut\nnozzle 200 300 border\nnozzle 199 300 open\n"
-    said += b"nozzle 500 500 open\nnozzle 0 500 border\nnozzle 1500 300 shut\nend 18\n"
-    assert len(file) == 243 and run(file) == (said, True)
-    before = b"field 1 corners 4 area2 2000000\n"
-    assert run(file[:72]) == (before + b"refused 13 at 72\n", True)
-    assert run(file[:71] + inner(square)) == (before + b"refused 15 at 140\n", True)
-    assert run(file[:71] + inner([pond[k] for k in (0, 2, 1, 3)])) == (before + b"refused 9 at 140 edges 0 2\n", True)
-    sixteen = file[:71] + b"".join(inner([(50 * k + x, y) for x, y in ((10, 10), (40, 10), (10, 40))]) for k in range(16))
-    assert run(sixteen)[0].endswith(b"inner 16 corners 3 area2 900\nend 86\n")
-    assert run(sixteen + begin_inner())[0].endswith(b"refused 16 at %d\n" % len(sixteen))
-    return file
-
-
 if __name__ == "__main__":
     worked()
-    worked_pond()
     if len(sys.argv) > 1:
         output, certain = run(Path(sys.argv[1]).read_bytes())
         sys.stdout.buffer.write(output)
         if not certain:
             sys.exit("a point lies near a tie: a program may round it the other way")
     else:
-        print("job: the examples of document 01 come out as printed, and a pond in its square as worked out by hand")
+        print("job: the examples of document 01 come out as printed")

@@ -3,7 +3,7 @@
     python3 reference/job_cases.py crates/job_files
 
 writes the files to `data/jobs/`, their names to `args`, and to `stdout` for each file its name and then its output by job.py. Files with a point near a tie
-are left out. The groups of inner rings are in inner_job_cases.py. Assumes Python 3.9 or newer and its standard library.
+are left out. Assumes Python 3.9 or newer and its standard library.
 """
 
 import random
@@ -13,7 +13,6 @@ from collections import Counter
 from decimal import Decimal
 from pathlib import Path
 
-import inner_job_cases
 import job
 import projection
 import ring_cases
@@ -29,13 +28,10 @@ OPEN = job.begin(2) + job.corner(0, 0) + job.corner(5, 0)
 POINT = job.point(1, 52 * DEGREE + 4321, 19 * DEGREE - 98765)
 WHOLE = {
     "begin": job.begin(14), "corner": job.corner(-3, 7), "close": job.close(), "query": job.query(500, -500), "point": POINT,
-    "inner": job.begin_inner(),
 }
-# What may come before the record that is tried: nothing, a point, a field being gathered, an accepted field, two of them; and the places with an inner ring,
-# which come last, so that what is drawn for the others stays.
+# What may come before the record that is tried: nothing, a point, a field being gathered, an accepted field, two of them
 BEFORE = {
     "none": b"", "point": POINT, "open": OPEN, "accepted": ACCEPTED, "second": ACCEPTED + job.query(1, 1) + job.field(3, ring_cases.HOUSE),
-    **inner_job_cases.BEFORE,
 }
 
 
@@ -47,7 +43,6 @@ def examples(rng):
 
 
 def unknown_kinds(rng):
-    """Kinds that are none, and 6, which was none before document 02 (i): its files stay as they were, and so do those drawn after them."""
     for name, before in BEFORE.items():
         for kind in (0, 6, 7, 9, 49, 127, 128, 255):
             yield "kind-%d-after-%s" % (kind, name), before + bytes((kind,)) + rng.randbytes(rng.choice((0, 1, 17)))
@@ -192,7 +187,7 @@ def at_random(rng):
         yield "random-%d" % k, bytes(rng.choice((1, 2, 3, 4, 5, rng.randrange(256))) for _ in range(rng.randint(1, 60)))
 
 
-GROUPS = [examples, unknown_kinds, cut_off, out_of_place, codes, corner_numbers, closings, queries, points, large, at_random] + inner_job_cases.GROUPS
+GROUPS = [examples, unknown_kinds, cut_off, out_of_place, codes, corner_numbers, closings, queries, points, large, at_random]
 
 
 def main(folder):

@@ -16,7 +16,7 @@ use mir.Syntax.{w64}
 use mir.Val.{to_z, of_z, SFits}
 use mir.Facts.{to_z-of_z}
 use mir.ValLaws.{to_z_pos}
-use Rattle.rules.specs.JobFile.{signed, little_endian, number_at, code_of, Row, kind_row, begin_field, corner, close_ring, nozzle_query, point_to_plane, begin_inner, find_kind, kinds}
+use Rattle.rules.specs.JobFile.{signed, little_endian, number_at, code_of, Row, kind_row, begin_field, corner, close_ring, nozzle_query, point_to_plane, find_kind, kinds}
 use Rattle.rules.specs.Laws.Job.{signed_low}
 use Rattle.rules.specs.Refusals.{Answer, refused, kind_unknown, body_cut_off}
 use Rattle.records.specs.declared.Record as code
@@ -84,11 +84,11 @@ past : (byte : ℕ) (k : Row) (ks : List Row) → (byte ≡ k.byte → ⊥) → 
 unfolding find_kind
 past byte k ks n = rw (ne_eqb byte k.byte n, find_kind)
 
-pub no_kind : (k : ℕ) → (k ≡ 1 → ⊥) → (k ≡ 2 → ⊥) → (k ≡ 3 → ⊥) → (k ≡ 4 → ⊥) → (k ≡ 5 → ⊥) → (k ≡ 6 → ⊥) → find_kind k kinds ≡ refused kind_unknown
+pub no_kind : (k : ℕ) → (k ≡ 1 → ⊥) → (k ≡ 2 → ⊥) → (k ≡ 3 → ⊥) → (k ≡ 4 → ⊥) → (k ≡ 5 → ⊥) → find_kind k kinds ≡ refused kind_unknown
 unfolding find_kind kinds
-no_kind k a b c d e f =
+no_kind k a b c d e =
     past k (kind_row 1 begin_field 1) (drop 1 kinds) a ∙ past k (kind_row 2 corner 16) (drop 2 kinds) b ∙ past k (kind_row 3 close_ring 0) (drop 3 kinds) c
-    ∙ past k (kind_row 4 nozzle_query 16) (drop 4 kinds) d ∙ past k (kind_row 5 point_to_plane 17) (drop 5 kinds) e ∙ past k (kind_row 6 begin_inner 0) [] f
+    ∙ past k (kind_row 4 nozzle_query 16) (drop 4 kinds) d ∙ past k (kind_row 5 point_to_plane 17) [] e
 
 -- ---- a body's length, by its kind
 module _ (k : ℕ) (b : List ℕ) (body : BodyOf k b) where
@@ -107,21 +107,21 @@ module _ (k : ℕ) (b : List ℕ) (body : BodyOf k b) where
   unfolding length_of find_kind kinds
   four_long e = is_long 16 (rw e)
 
-  -- what is left after the other five
-  pub five : (k ≡ 1 → ⊥) → (k ≡ 2 → ⊥) → (k ≡ 3 → ⊥) → (k ≡ 4 → ⊥) → (k ≡ 6 → ⊥) → k ≡ 5
+  -- what is left after the other four
+  pub five : (k ≡ 1 → ⊥) → (k ≡ 2 → ⊥) → (k ≡ 3 → ⊥) → (k ≡ 4 → ⊥) → k ≡ 5
   unfolding length_of
-  five n1 n2 n3 n4 n6 = go (eqb k 5) refl
+  five n1 n2 n3 n4 = go (eqb k 5) refl
     where
       never : Unknown ≡ Bytes (length b) → ⊥
       never u = let z : ◌≡◌ {A = ℕ} 0 1 = cc in omega arith
 
       go : (t : Bool) → eqb k 5 ≡ t → k ≡ 5
       go true e = eqb-true k 5 e
-      go false e = absurd (never (sym (ap length_by (no_kind k n1 n2 n3 n4 (eqb-false k 5 e) n6)) ∙ body.long))
+      go false e = absurd (never (sym (ap length_by (no_kind k n1 n2 n3 n4 (eqb-false k 5 e))) ∙ body.long))
 
-  pub five_long : (k ≡ 1 → ⊥) → (k ≡ 2 → ⊥) → (k ≡ 3 → ⊥) → (k ≡ 4 → ⊥) → (k ≡ 6 → ⊥) → length b ≡ 17
+  pub five_long : (k ≡ 1 → ⊥) → (k ≡ 2 → ⊥) → (k ≡ 3 → ⊥) → (k ≡ 4 → ⊥) → length b ≡ 17
   unfolding length_of find_kind kinds
-  five_long n1 n2 n3 n4 n6 = is_long 17 (rw (five n1 n2 n3 n4 n6))
+  five_long n1 n2 n3 n4 = is_long 17 (rw (five n1 n2 n3 n4))
 
 -- ---- the record that a body is, as the code has its numbers
 pub back : {z y : ℤ} → mag z < 2 ^ 63 → z ≡ y → to_z w64 (of_z w64 z) ≡ y
@@ -143,10 +143,6 @@ module _ {k : ℕ} (b : List ℕ) where
   pub queries : {x y : ℤ} → k ≡ 4 → x ≡ number_at 0 b → y ≡ number_at 8 b → case.Query x y ≡ body_of k b
   unfolding body_of find_kind kinds
   queries e f g = rw (e, f, g) refl
-
-  pub begins_inner : k ≡ 6 → case.Inner ≡ body_of k b
-  unfolding body_of find_kind kinds
-  begins_inner e = rw e refl
 
   pub points : {x y : ℤ} → k ≡ 5 → 0 < length b → x ≡ number_at 1 b → y ≡ number_at 9 b → case.Point (get_or b 0 0) x y ≡ body_of k b
   unfolding body_of find_kind kinds code_of

@@ -11,7 +11,7 @@ pub enum Record {
     Close,
     Query(i64, i64),
     Point(u8, i64, i64),
-    // Begins an inner ring.
+    // Begins an inner ring. No kind is read as it yet.
     Inner,
 }
 
@@ -84,9 +84,6 @@ fn body_length(kind: u8) -> Length
     if kind == 5 {
         return Length::Bytes(17);
     }
-    if kind == 6 {
-        return Length::Bytes(0);
-    }
     Length::Unknown
 }
 
@@ -106,9 +103,6 @@ fn parse(kind: u8, body: &[u8]) -> Record
     }
     if kind == 4 {
         return Record::Query(number(body, 0), number(body, 8));
-    }
-    if kind == 6 {
-        return Record::Inner;
     }
     Record::Point(body[0], number(body, 1), number(body, 9))
 }

@@ -46,7 +46,7 @@ code_of body = little_endian (take 1 body)
 pub data Kind : Type 0 where
   begin_field corner close_ring nozzle_query point_to_plane begin_inner : Kind
 
--- the table's rows: the kind byte, what it means, and the body's length; 02 (i): "kind 6, begin an inner ring, without a body"
+-- the table's rows (02 (i)'s "kind 6, begin an inner ring, without a body" is none of them yet, so that no file comes to an inner ring): the kind byte, what it means, and the body's length
 pub record Row : Type 0 where
   pub byte : ℕ
   pub kind : Kind
@@ -62,7 +62,6 @@ kinds =
     ∷ kind_row 3 close_ring 0
     ∷ kind_row 4 nozzle_query (8 + 8)
     ∷ kind_row 5 point_to_plane (1 + 8 + 8)
-    ∷ kind_row 6 begin_inner 0
     ∷ []
 
 -- 11: "unknown kind"

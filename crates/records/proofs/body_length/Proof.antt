@@ -27,13 +27,9 @@ unfolding length_of find_kind kinds
 returns_5 c = rw c.if5.true refl
 
 returns_6 : tie.Need-returns-6
-unfolding length_of find_kind kinds
-returns_6 c = rw c.if6.true refl
-
-returns_7 : tie.Need-returns-7
 unfolding length_of
-returns_7 c =
-    rw (no_kind _ c.before.before.before.before.before.if1.false c.before.before.before.before.if2.false c.before.before.before.if3.false c.before.before.if4.false c.before.if5.false c.if6.false) refl
+returns_6 c =
+    rw (no_kind _ c.before.before.before.before.if1.false c.before.before.before.if2.false c.before.before.if3.false c.before.if4.false c.if5.false) refl
 
 pub body_length_spec : {M : Type 1} → statement M
-body_length_spec = tie.close (tie.spec returns returns_2 returns_3 returns_4 returns_5 returns_6 returns_7)
+body_length_spec = tie.close (tie.spec returns returns_2 returns_3 returns_4 returns_5 returns_6)

@@ -1,6 +1,6 @@
 -- `records::parse` meets its contract: each kind's body has its length, and the record is the one of the rules. Assumes nothing.
 use native.Mathlib.Omega.{arith}
-use Rattle.records.proofs.Laws.{one_long, two_long, four_long, five, five_long, back, begins, corners, closes, queries, begins_inner, points}
+use Rattle.records.proofs.Laws.{one_long, two_long, four_long, five, five_long, back, begins, corners, closes, queries, points}
 use Rattle.records.proofs.parse.Statement.{statement}
 use Rattle.records.proofs.parse.Tie as tie
 
@@ -34,25 +34,22 @@ returns_4 : tie.Need-returns-4
 returns_4 c =
     queries c.before.before.before.before.before.before.before.args.body.now c.before.before.if4.true (back c.before.number3.type-inv c.before.number3.ensures) (back c.number4.type-inv c.number4.ensures)
 
-returns_5 : tie.Need-returns-5
-returns_5 c = begins_inner c.before.before.before.before.before.before.args.body.now c.if5.true
-
 shared_slice_read_t11 : tie.Need-shared-slice-read-t11
 shared_slice_read_t11 c =
-    let e = five_long _ _ c.before.before.before.before.before.before.before.requires c.before.before.before.before.before.if1.false c.before.before.before.before.if2.false c.before.before.before.if3.false c.before.before.if4.false c.before.if5.false in omega arith
+    let e = five_long _ _ c.before.before.before.before.before.before.requires c.before.before.before.before.if1.false c.before.before.before.if2.false c.before.before.if3.false c.before.if4.false in omega arith
 
 number_requires_5 : tie.Need-number-requires-5
 number_requires_5 c κs =
-    let e = five_long _ _ c.before.before.before.before.before.before.before.requires c.before.before.before.before.before.if1.false c.before.before.before.before.if2.false c.before.before.before.if3.false c.before.before.if4.false c.before.if5.false in omega arith
+    let e = five_long _ _ c.before.before.before.before.before.before.requires c.before.before.before.before.if1.false c.before.before.before.if2.false c.before.before.if3.false c.before.if4.false in omega arith
 
 number_requires_6 : tie.Need-number-requires-6
 number_requires_6 c κs =
-    let e = five_long _ _ c.before.before.before.before.before.before.before.before.requires c.before.before.before.before.before.before.if1.false c.before.before.before.before.before.if2.false c.before.before.before.before.if3.false c.before.before.before.if4.false c.before.before.if5.false in omega arith
+    let e = five_long _ _ c.before.before.before.before.before.before.before.requires c.before.before.before.before.before.if1.false c.before.before.before.before.if2.false c.before.before.before.if3.false c.before.before.if4.false in omega arith
 
-returns_6 : tie.Need-returns-6
-returns_6 c =
-    let e = five_long _ _ c.before.before.before.before.before.before.before.before.before.requires c.before.before.before.before.before.before.before.if1.false c.before.before.before.before.before.before.if2.false c.before.before.before.before.before.if3.false c.before.before.before.before.if4.false c.before.before.before.if5.false in
-    points c.before.before.before.before.before.before.before.before.before.args.body.now (five _ _ c.before.before.before.before.before.before.before.before.before.requires c.before.before.before.before.before.before.before.if1.false c.before.before.before.before.before.before.if2.false c.before.before.before.before.before.if3.false c.before.before.before.before.if4.false c.before.before.before.if5.false) (omega arith)
+returns_5 : tie.Need-returns-5
+returns_5 c =
+    let e = five_long _ _ c.before.before.before.before.before.before.before.before.requires c.before.before.before.before.before.before.if1.false c.before.before.before.before.before.if2.false c.before.before.before.before.if3.false c.before.before.before.if4.false in
+    points c.before.before.before.before.before.before.before.before.args.body.now (five _ _ c.before.before.before.before.before.before.before.before.requires c.before.before.before.before.before.before.if1.false c.before.before.before.before.before.if2.false c.before.before.before.before.if3.false c.before.before.before.if4.false) (omega arith)
     (back c.before.number5.type-inv c.before.number5.ensures) (back c.number6.type-inv c.number6.ensures)
 
 pub parse_spec : {M : Type 1} → statement M
@@ -68,8 +65,7 @@ parse_spec =
     number_requires_3
     number_requires_4
     returns_4
-    returns_5
     shared_slice_read_t11
     number_requires_5
     number_requires_6
-    returns_6)
+    returns_5)

@@ -18,16 +18,4 @@ jobs = record {
   lines_stay = refl;
   field_dropped = refl;
   too_few = refl;
-  pond_output = refl;
-  inner_first = refl;
-  inner_in_outer = refl;
-  inner_in_inner = refl;
-  query_in_inner = refl;
-  inner_unfinished = refl;
-  misplaced_pond = refl;
-  crossed_pond = refl;
-  pond_too_few = refl;
-  sixteenth = refl;
-  seventeenth = refl;
-  pond_dropped = refl;
 }
