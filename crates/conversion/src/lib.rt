@@ -14,7 +14,7 @@ ghost use Rattle.conversion.specs.Plane.{worked_plane, carried, taken_to};
 use projection::{InverseAnswer, PlaneAnswer};
 use systems::{Zone, ZoneAnswer};
 
-#[derive(Drop)]
+#[derive(Clone, Copy)]
 pub enum Verdict {
     Passed,
     Refused(u8),
@@ -81,7 +81,7 @@ pub fn plane_to_plane(source: u8, target: u8, x: i64, y: i64) -> PlaneAnswer
 }
 
 // The numbers of a ring's corners, as far as they go, or a corner's refusal.
-#[derive(Drop)]
+#[derive(Clone, Copy)]
 pub struct Converted {
     pub refused: bool,
     pub number: u8,

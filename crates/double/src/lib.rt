@@ -1,11 +1,13 @@
 // Complex numbers as pairs of doubles, by value, and a polynomial with real coefficients at one. Each contract says what the parts are
 // in doubles; how far these are from the exact polynomial is in specs/Laws.
+#![tactic(auto)]
+
 ghost use Rattle.std.specs.Prelude.{◌≡◌};
 ghost use Rattle.double.specs.Complex.{sum, product, step, horner};
 
 pub mod series;
 
-#[derive(Drop)]
+#[derive(Clone, Copy)]
 pub struct Pair {
     pub re: f64,
     pub im: f64,

@@ -164,7 +164,7 @@ fn take_numbers(numbers: &mut [i64], said: u64) -> usize {
 }
 
 // How many rings and numbers the field of the case has, for a case that goes on with it, and whether there may be one.
-#[derive(Drop)]
+#[derive(Clone, Copy)]
 struct Turn {
     rings: usize,
     count: usize,

@@ -15,7 +15,7 @@ mod reading;
 mod standing;
 
 // Accepted; or a crossed ring, with its number, its first pair of edges and the pairs looked at; or the number of a refusal.
-#[derive(Drop)]
+#[derive(Clone, Copy)]
 pub enum FieldAnswer {
     Accepted,
     Crossed(u64, u64, u64, u64),
@@ -23,7 +23,7 @@ pub enum FieldAnswer {
 }
 
 // Where a nozzle stands; or a refusal, a crossed ring's with its number, its first pair of edges and the pairs looked at.
-#[derive(Drop)]
+#[derive(Clone, Copy)]
 pub enum FieldNozzle {
     Open,
     Border,

@@ -1,4 +1,6 @@
 // Fixed point at scale 2^60 on u64. Each function answers the worked number of the same name in specs/.
+#![tactic(auto)]
+
 ghost use Rattle.std.specs.Prelude.{◌≡◌, ℕ, ◌+◌, ◌*◌, ◌/◌, ◌^◌, ◌<◌, ◌≤◌, T};
 ghost use Rattle.fixed.specs.Worked.{S60, mul60, quot60, alt60, ser60, odd_alt60, odd_ser60, even_alt60, even_ser60, tilt60, tilt_south};
 ghost use Rattle.fixed.specs.Relations.{Mul60, Quot60, falls};
@@ -103,7 +105,7 @@ pub fn even_ser60(tab: &[u64], x: u64) -> u64
 }
 
 // An angle's difference from 52 degrees: the size of its tangent, and whether it is to the south.
-#[derive(Drop)]
+#[derive(Clone, Copy)]
 pub struct Tilt {
     pub south: bool,
     pub size: u64,

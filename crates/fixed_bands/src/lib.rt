@@ -15,7 +15,7 @@ pub mod shortfall_grs80;
 pub mod shortfall_krasovsky;
 
 // The coefficients of a band's polynomial, without their signs.
-#[derive(Drop)]
+#[derive(Clone, Copy)]
 pub struct Row {
     pub c0: u64,
     pub c1: u64,
@@ -58,7 +58,7 @@ fn sink60(r: Row, h: u64) -> u64
     r.c0 - part30(first, h)
 }
 
-#[derive(Drop)]
+#[derive(Clone, Copy)]
 pub struct SineCosine {
     pub sine: u64,
     pub cosine: u64,

@@ -41,7 +41,7 @@ pub fn k60(krasovsky: bool, n: u64) -> u64
 }
 
 // Half of the numerator and of the denominator of sin f.
-#[derive(Drop)]
+#[derive(Clone, Copy)]
 pub struct Halves {
     pub numerator: u64,
     pub denominator: u64,
@@ -64,7 +64,7 @@ pub fn halves60(k: u64, t: u64) -> Halves
 
 // What a point's answers are worked from: sine and cosine of the latitude and of the difference of longitude, K, half the numerator and the denominator of
 // sin f, and K·cos B, half the numerator of cos f.
-#[derive(Drop)]
+#[derive(Clone, Copy)]
 pub struct Spherical {
     pub t: u64,
     pub c: u64,
@@ -146,7 +146,7 @@ pub fn north30(centre: u64, radius: u64, s: Spherical) -> i64
 }
 
 // An ellipsoid's R0, and R0 times 52 degrees less 5,760,000 m, in units of 2^-30 m.
-#[derive(Drop)]
+#[derive(Clone, Copy)]
 pub struct Ellipsoid {
     pub radius: u64,
     pub centre: u64,
@@ -171,7 +171,7 @@ pub fn ellipsoid60(krasovsky: bool) -> Ellipsoid
 
 // A point's sphere, cos f·sin d, and Mercator's pair: x less 5,760,000 m and the size of y, in units of 2^-30 m. The parts of the pair stand apart, because side by
 // side the compiler would fetch both at once, and wait until both are written.
-#[derive(Drop)]
+#[derive(Clone, Copy)]
 pub struct Mercator {
     pub sphere: Spherical,
     pub north: i64,

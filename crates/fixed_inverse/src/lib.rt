@@ -207,7 +207,7 @@ pub fn ticks60(b: u64) -> u64
 }
 
 // B, and the size of L - L0, in ticks.
-#[derive(Drop)]
+#[derive(Clone, Copy)]
 pub struct Ticks {
     pub latitude: u64,
     pub difference: u64,

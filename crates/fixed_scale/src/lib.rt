@@ -42,7 +42,7 @@ pub fn root60(x: u64) -> u64
 }
 
 // An ellipsoid's e² and R0 / a.
-#[derive(Drop)]
+#[derive(Clone, Copy)]
 pub struct Shape {
     pub square: u64,
     pub ratio: u64,

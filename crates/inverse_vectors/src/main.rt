@@ -16,7 +16,7 @@ fn outcome_of(record: &[u8]) -> Outcome {
     }
 }
 
-#[derive(Drop)]
+#[derive(Clone, Copy)]
 struct Turn {
     groups: Groups,
     more: bool,

@@ -13,7 +13,7 @@ use records::{Read, Record};
 
 // What a byte asks of the job: nothing; that a corner be stored behind the others; that the corners be laid out for the query that is then answered; or that the
 // job take a record of so many bytes.
-#[derive(Drop)]
+#[derive(Clone, Copy)]
 pub enum Change {
     Nothing,
     Store(i64, i64),
@@ -23,7 +23,7 @@ pub enum Change {
 
 // The record that is begun and its place, how many bytes of the chunk are left, how many were written, whether a record was refused, whether the accepted rings are laid out for queries, and what
 // the last byte asks.
-#[derive(Drop)]
+#[derive(Clone, Copy)]
 pub struct Passage {
     pub held: Held,
     pub place: Place,

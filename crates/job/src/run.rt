@@ -15,20 +15,20 @@ use lines::Line;
 use records::{Cursor, Read};
 
 // The bytes so far of the record that is begun: the first `count`.
-#[derive(Drop)]
+#[derive(Clone, Copy)]
 pub struct Held {
     pub bytes: [u8; 18],
     pub count: usize,
 }
 
 // The offset of the record that is begun, and how many came before it.
-#[derive(Drop)]
+#[derive(Clone, Copy)]
 pub struct Place {
     pub offset: u64,
     pub records: u64,
 }
 
-#[derive(Drop)]
+#[derive(Clone, Copy)]
 pub struct Run {
     pub job: Job,
     pub held: Held,
@@ -37,7 +37,7 @@ pub struct Run {
 }
 
 // The run after a chunk, how many of its bytes were taken, and how many were written.
-#[derive(Drop)]
+#[derive(Clone, Copy)]
 pub struct Fed {
     pub run: Run,
     pub used: usize,

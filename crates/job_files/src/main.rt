@@ -31,7 +31,7 @@ fn feed_first(run: Run, bytes: &[u8], count: usize, out: &mut [u8]) -> Run {
     feed_chunk(run, &bytes[0..count], out)
 }
 
-#[derive(Drop)]
+#[derive(Clone, Copy)]
 struct Turn {
     run: Run,
     more: bool,

@@ -15,7 +15,7 @@ use records::Record;
 
 // What is to be done where the job lies: an answer is given and the job stays as it is; a corner is stored behind the others, and nothing is answered; the corners
 // are laid out, and the record is asked again; or the job takes the record (`Job::take`).
-#[derive(Drop)]
+#[derive(Clone, Copy)]
 pub enum Reply {
     Say(Answer),
     Store(i64, i64),

@@ -73,7 +73,7 @@ pub fn flatten(corners: [Corner; 3072], count: usize) -> [i64; 6144]
 }
 
 // A ring that is closed: its doubled area, or the refusal, a crossed ring's with its number, its first pair of edges and the pairs looked at.
-#[derive(Drop)]
+#[derive(Clone, Copy)]
 pub enum Judged {
     Area(i64),
     Refused(u8),

@@ -10,13 +10,13 @@ use crate::ring::Judged;
 use crate::{in_place, ring};
 use records::Record;
 
-#[derive(Drop)]
+#[derive(Clone, Copy)]
 pub struct Corner {
     pub x: i64,
     pub y: i64,
 }
 
-#[derive(Drop)]
+#[derive(Clone, Copy)]
 pub enum Phase {
     Idle,
     Gathering,
@@ -26,7 +26,7 @@ pub enum Phase {
 
 // The corners of the accepted rings one after the other, the outer ring first, and behind them those of the ring being gathered; how many corners each accepted
 // ring has; how many rings are accepted, and their corners in all; and how many corners are gathered so far.
-#[derive(Drop)]
+#[derive(Clone, Copy)]
 pub struct Job {
     pub corners: [Corner; 3072],
     pub counts: [u32; 17],
@@ -37,7 +37,7 @@ pub struct Job {
     pub phase: Phase,
 }
 
-#[derive(Drop)]
+#[derive(Clone, Copy)]
 pub enum Position {
     Open,
     Border,
@@ -45,7 +45,7 @@ pub enum Position {
 }
 
 // What a record is answered: nothing, a line's numbers, or a refusal.
-#[derive(Drop)]
+#[derive(Clone, Copy)]
 pub enum Answer {
     Silent,
     Field(u8, usize, i64),
@@ -56,7 +56,7 @@ pub enum Answer {
     Crossed(u64, u64, u64, u64),
 }
 
-#[derive(Drop)]
+#[derive(Clone, Copy)]
 pub struct Taken {
     pub job: Job,
     pub answer: Answer,

@@ -1,17 +1,19 @@
 // The lines that the field program prints: a line is built up by value, text and decimal numbers after one another, and then copied into a lent buffer.
+#![tactic(auto)]
+
 ghost use Rattle.std.specs.Prelude.{◌≡◌, [], ◌+◌, ◌≤◌, ◌<◌, length, drop, nat_abs};
 ghost use Rattle.rules.specs.JobFile.{decimal, whole};
 ghost use Rattle.lines.specs.Said.{said, Longer, pasted};
 
 // The digits of a number stand at the end of the array, from `at` on.
-#[derive(Drop)]
+#[derive(Clone, Copy)]
 struct Digits {
     bytes: [u8; 20],
     at: usize,
 }
 
 // A line so far: the first `count` bytes. No line of the program has more than 128.
-#[derive(Drop)]
+#[derive(Clone, Copy)]
 pub struct Line {
     pub bytes: [u8; 128],
     pub count: usize,

@@ -1,4 +1,6 @@
 // Into f64 and out of it: metres and z from whole numbers, and whole numbers from metres, with m0 and the rounding in whole numbers.
+#![tactic(auto)]
+
 ghost use Rattle.std.specs.Prelude.{◌≡◌, ◌+◌, ◌-◌, ◌*◌, ◌/◌, ◌^◌, ◌≤◌, ◌<◌, nat_abs};
 ghost use Rattle.std.specs.Float.Ieee.Nearest.{closest};
 ghost use Rattle.rules.specs.Polynomial.{double_unit};

@@ -16,14 +16,14 @@ pub mod steps;
 pub use projection_inverse::{InverseAnswer, backward};
 
 // X, Y, scale and convergence, or the refusal's number.
-#[derive(Drop)]
+#[derive(Clone, Copy)]
 pub enum ForwardAnswer {
     Point(i64, i64, i64, i64),
     Refused(u8),
 }
 
 // X and Y, or the refusal's number.
-#[derive(Drop)]
+#[derive(Clone, Copy)]
 pub enum PlaneAnswer {
     At(i64, i64),
     Refused(u8),

@@ -24,7 +24,7 @@ use fixed_forward::Mercator;
 use systems::Zone;
 
 // The side of the central meridian on which a point lies, and its distance in ticks.
-#[derive(Drop)]
+#[derive(Clone, Copy)]
 pub struct Side {
     pub west: bool,
     pub ticks: u64,
@@ -48,7 +48,7 @@ pub fn side_of(meridian: i64, l: i64) -> Side
 }
 
 // X and Y in millimetres.
-#[derive(Drop)]
+#[derive(Clone, Copy)]
 pub struct Corner {
     pub x: i64,
     pub y: i64,
@@ -69,7 +69,7 @@ pub fn corner_of(zone: Zone, west: bool, p: Pair) -> Corner
 }
 
 // A point's side of the central meridian, and Mercator's pair with what it is worked from.
-#[derive(Drop)]
+#[derive(Clone, Copy)]
 pub struct Located {
     pub west: bool,
     pub mercator: Mercator,

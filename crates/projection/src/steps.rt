@@ -59,7 +59,7 @@ pub fn slope_pair(krasovsky: bool, north: i64, east: u64) -> Pair
 }
 
 // The derivative as whole numbers at scale 2^60: its first part times 0.000002, and the size of its slope.
-#[derive(Drop)]
+#[derive(Clone, Copy)]
 pub struct SlopeParts {
     pub first: u64,
     pub slope: u64,

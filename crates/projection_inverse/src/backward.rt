@@ -21,7 +21,7 @@ use fixed_inverse::Ticks;
 use systems::Zone;
 
 // How far a number lies from an offset, and whether below it.
-#[derive(Drop)]
+#[derive(Clone, Copy)]
 pub struct Distance {
     pub below: bool,
     pub size: u64,

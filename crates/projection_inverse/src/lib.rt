@@ -2,7 +2,7 @@
 pub mod backward;
 
 // B and L, or the refusal's number.
-#[derive(Drop)]
+#[derive(Clone, Copy)]
 pub enum InverseAnswer {
     Ticks(i64, i64),
     Refused(u8),

@@ -1,10 +1,12 @@
 // The records of a job file: a cursor by value over the file's bytes, and an enum for what stands at it.
 // Checks 11 and 12 are made here; 13 and the content's own are the job's.
+#![tactic(auto)]
+
 ghost use Rattle.std.specs.Prelude.{◌≡◌, ◌+◌, ◌≤◌, ◌<◌, length, get_or};
 ghost use Rattle.rules.specs.JobFile.{number_at, signed};
 ghost use Rattle.records.specs.Reader.{BodyOf, body_of, eight_at, length_of, read_at};
 
-#[derive(Drop)]
+#[derive(Clone, Copy)]
 pub enum Record {
     Begin(u8),
     Corner(i64, i64),
@@ -15,13 +17,13 @@ pub enum Record {
     Inner,
 }
 
-#[derive(Drop)]
+#[derive(Clone, Copy)]
 pub struct Cursor {
     pub at: usize,
 }
 
 // A whole record with the cursor past it, a refusal's number with the place of the kind byte, or nothing left.
-#[derive(Drop)]
+#[derive(Clone, Copy)]
 pub enum Read {
     Whole(Record, Cursor),
     Refused(u8, usize),
@@ -29,7 +31,7 @@ pub enum Read {
 }
 
 // The length of a kind's body.
-#[derive(Drop)]
+#[derive(Clone, Copy)]
 enum Length {
     Bytes(usize),
     Unknown,

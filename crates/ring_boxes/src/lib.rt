@@ -7,7 +7,7 @@ ghost use Rattle.ring_boxes.specs.Boxes.{Spans, RunEnd, Filled, Boxed};
 use ring_corners::corners;
 
 // A box: its lowest and its highest numbers.
-#[derive(Drop)]
+#[derive(Clone, Copy)]
 pub struct Reach {
     pub low_x: i64,
     pub high_x: i64,

@@ -4,7 +4,7 @@ ghost use Rattle.rules.specs.Rings.{D};
 ghost use Rattle.ring_corners.specs.Corners.{corner, Near, Wide};
 ghost use Rattle.ring_corners.specs.Sides.{sign_of};
 
-#[derive(Drop)]
+#[derive(Clone, Copy)]
 pub enum Sign {
     Positive,
     Zero,

@@ -7,7 +7,7 @@ ghost use Rattle.ring_turning.specs.Touching.{touch_of, touch_rise, touch_fall, 
 use ring_corners::sides::Sign;
 use ring_corners::{corners, sides};
 
-#[derive(Drop)]
+#[derive(Clone, Copy)]
 pub enum Touch {
     OnEdge,
     Adds(i64),

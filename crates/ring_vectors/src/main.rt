@@ -92,7 +92,7 @@ fn list_of(numbers: &mut [i64], said: u64, before: usize) -> usize {
     vectors::take_list(numbers, said as usize)
 }
 
-#[derive(Drop)]
+#[derive(Clone, Copy)]
 struct Turn {
     count: usize,
     more: bool,

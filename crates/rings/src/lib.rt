@@ -13,14 +13,14 @@ mod looked;
 mod standing;
 
 // A whole number, or the number of a refusal.
-#[derive(Drop)]
+#[derive(Clone, Copy)]
 pub enum WholeAnswer {
     Is(i64),
     Refused(u8),
 }
 
 // No crossed pair, and the pairs of edges looked at; or the first crossed pair of edges, by number, and the pairs looked at; or the number of a refusal.
-#[derive(Drop)]
+#[derive(Clone, Copy)]
 pub enum CrossingAnswer {
     Clean(u64),
     Crossed(u64, u64, u64),
@@ -28,7 +28,7 @@ pub enum CrossingAnswer {
 }
 
 // Where a nozzle stands; or a refusal, a crossed ring's with its first pair of edges and the pairs looked at.
-#[derive(Drop)]
+#[derive(Clone, Copy)]
 pub enum NozzleAnswer {
     Open,
     Border,

@@ -1,4 +1,6 @@
 // The table of systems as the code has it, and the checks of a point against a system.
+#![tactic(auto)]
+
 ghost use Rattle.std.specs.Prelude.{◌≡◌, ◌≤◌, nat_abs, ◌+ℤ◌, ◌*ℤ◌};
 ghost use Rattle.rules.specs.Systems.{System};
 ghost use Rattle.rules.specs.Points.{latitude_bad, longitude_bad, plane_bad};
@@ -6,7 +8,7 @@ ghost use Rattle.systems.specs.Zones.{Found, Sized, Stands, beyond};
 
 // A system: the meridian and the reach to either side of it (the half-width) in ticks, m0 in millionths,
 // the offsets north and east in millimetres.
-#[derive(Drop)]
+#[derive(Clone, Copy)]
 pub struct Zone {
     pub krasovsky: bool,
     pub meridian: i64,
@@ -16,7 +18,7 @@ pub struct Zone {
     pub east: i64,
 }
 
-#[derive(Drop)]
+#[derive(Clone, Copy)]
 pub enum ZoneAnswer {
     Known(Zone),
     Unknown,

@@ -3,7 +3,7 @@
 use crate::{Outcome, Tally, distance, nth_number, nth_word};
 
 // Where a run over the records stands.
-#[derive(Drop)]
+#[derive(Clone, Copy)]
 pub struct Groups {
     tally: Tally,
     group: u64,

@@ -11,13 +11,13 @@ pub const TICK_BAND: u64 = 600000;
 const FAR: u64 = 1000000000000;
 
 // How an answer came out: its distances from the true values in millionths (0 where a call has fewer than four numbers), or a refusal.
-#[derive(Drop)]
+#[derive(Clone, Copy)]
 pub enum Outcome {
     Answered(u64, u64, u64, u64),
     Refused(u64),
 }
 
-#[derive(Drop)]
+#[derive(Clone, Copy)]
 pub struct Tally {
     pub band: u64,
     pub points: u64,

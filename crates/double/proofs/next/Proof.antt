@@ -10,13 +10,13 @@ use Rattle.double.proofs.next.Tie as tie
 abbrev plus_real : Pair → Float → Pair
 plus_real p k = record { re = add binary64 p.re k; im = p.im }
 
-times_requires : tie.Need-times-requires
+times_requires : tie.Need-times-p-requires
 times_requires c κs = search rules
 
 returns : tie.Need-returns
 returns c =
     let k = c.before.before.args.c in
-    ap (λ (p : Pair). plus_real p k) c.before.times.ensures
+    ap (λ (p : Pair). plus_real p k) c.before.times-p.ensures
 
 pub next_spec : {M : Type 1} → statement M
 next_spec = tie.close (tie.spec times_requires returns)

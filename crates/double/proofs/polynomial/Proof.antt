@@ -12,10 +12,10 @@ use Rattle.double.specs.Complex.{real, step, horner}
 use Rattle.double.proofs.polynomial.Statement.{statement}
 use Rattle.double.proofs.polynomial.Tie as tie
 
-abbrev invariant_loop : tie.invariant_loop
+abbrev invariant_loop : tie.invariant-loop-i
 invariant_loop c z i₀ sum₀ i sum = (i < length c) × (sum ≡ horner (drop i c) z)
 
-abbrev decreases_loop : tie.decreases_loop
+abbrev decreases_loop : tie.decreases-loop-i
 decreases_loop c z i₀ sum₀ i sum = i
 
 -- ---- the polynomial of the coefficients from i on
@@ -47,51 +47,51 @@ from_last l z h = ap (λ (t : List Float). horner t z) (last l h)
 from_next : (l : List Float) (i : ℕ) (z : Pair) → 0 < i → i < length l → horner (drop (i - 1) l) z ≡ step (horner (drop i l) z) z (get_or l (i - 1) nan)
 from_next l i z h k = ap (λ (t : List Float). horner t z) (front l i h k) ∙ more (get_or l (i - 1) nan) (drop i l) z (simp length-drop (omega arith))
 
-returns : tie.Need-returns invariant_loop decreases_loop
+returns : tie.Need-returns-then-c-eq0 invariant_loop decreases_loop
 unfolding of_bits horner
 returns c = sym (none c.before.before.args.c.now c.before.before.args.z (omega arith))
 
-sub_i : tie.Need-overflow-sub-i invariant_loop decreases_loop
+sub_i : tie.Need-overflow_sub-i invariant_loop decreases_loop
 sub_i c = omega arith
 
-mul_t5 : tie.Need-overflow-mul-t5 invariant_loop decreases_loop
+mul_t5 : tie.Need-offset_bounds-c-i invariant_loop decreases_loop
 mul_t5 c = omega arith
 
-shared_slice_read_t8 : tie.Need-shared-slice-read-t8 invariant_loop decreases_loop
+shared_slice_read_t8 : tie.Need-bounds-c-i invariant_loop decreases_loop
 shared_slice_read_t8 c = omega arith
 
-loop_holds : tie.Need-loop-init invariant_loop decreases_loop
+loop_holds : tie.Need-loop-i-init invariant_loop decreases_loop
 unfolding of_bits
 loop_holds c = (omega arith, sym (from_last c.before.before.before.args.c.now c.before.before.before.args.z (omega arith)))
 
-sub_i_2 : tie.Need-overflow-sub-i-2 invariant_loop decreases_loop
+sub_i_2 : tie.Need-overflow_sub-i-in-loop-i invariant_loop decreases_loop
 sub_i_2 c = omega arith
 
-mul_next : tie.Need-overflow-mul-next invariant_loop decreases_loop
+mul_next : tie.Need-offset_bounds-c-i-in-loop-i invariant_loop decreases_loop
 mul_next c = omega arith
 
-shared_slice_read_next : tie.Need-shared-slice-read-next invariant_loop decreases_loop
+shared_slice_read_next : tie.Need-bounds-c-i-in-loop-i invariant_loop decreases_loop
 shared_slice_read_next c = omega arith
 
-next_requires : tie.Need-next-requires invariant_loop decreases_loop
+next_requires : tie.Need-next-sum-requires invariant_loop decreases_loop
 next_requires c κs = search rules
 
-loop_less : tie.Need-loop-smaller invariant_loop decreases_loop
+loop_less : tie.Need-loop-i-smaller invariant_loop decreases_loop
 loop_less c = omega arith
 
-loop_again : tie.Need-loop-preserved invariant_loop decreases_loop
+loop_again : tie.Need-loop-i-preserved invariant_loop decreases_loop
 loop_again c =
     let l = c.before.before.before.before.before.before.before.args.c.now in
     let z = c.before.before.before.before.before.before.before.args.z in
-    let i = c.before.before.before.loop.i in
-    (omega arith, c.next.ensures ∙ ap (λ (p : Pair). step p z (get_or l (i - 1) nan)) c.before.before.before.loop.invariant.1 ∙ sym (from_next l i z (omega arith) (omega arith)))
+    let i = c.before.before.before.loop-i.i in
+    (omega arith, c.next-sum.ensures ∙ ap (λ (p : Pair). step p z (get_or l (i - 1) nan)) c.before.before.before.loop-i.invariant.1 ∙ sym (from_next l i z (omega arith) (omega arith)))
 
-returns_2 : tie.Need-returns-2 invariant_loop decreases_loop
+returns_2 : tie.Need-returns invariant_loop decreases_loop
 returns_2 c =
     let l = c.before.before.before.before.before.args.c.now in
     let z = c.before.before.before.before.before.args.z in
-    let i : c.before.loop.i ≡ 0 = omega arith in
-    c.before.loop.invariant.1 ∙ ap (λ (n : ℕ). horner (drop n l) z) i
+    let i : c.before.loop-i.i ≡ 0 = omega arith in
+    c.before.loop-i.invariant.1 ∙ ap (λ (n : ℕ). horner (drop n l) z) i
 
 pub polynomial_spec : {M : Type 1} → statement M
 polynomial_spec =

@@ -181,14 +181,14 @@ module _ (f : Format) where
           less = omega arith
 
           at : (o : Bool) → (T (not o) → b ≤ 0) → plain (cond o (round f t (b - 0) c) (round f (s && ltb b 0) (0 - b) c)) ≡ plain (round f t b c)
-          at true h = ap (λ (n : ℕ). plain (round f t n c)) (NatL.sub_zero b)
+          at true h = ap (λ (n : ℕ). plain (round f t n c)) (NatL.sub-zero b)
           at false h = plain_zero (s && ltb b 0) (0 - b) c less C ∙ sym (plain_zero t b c (none (h tt)) C)
 
       go : (s t : Bool) → plain (cond (beq s t) (round f s (0 + b) c) (cond (ltb 0 b) (round f t (b - 0) c) (round f (s && ltb b 0) (0 - b) c))) ≡ plain (round f t b c)
-      go true true = ap (λ (n : ℕ). plain (round f true n c)) (NatL.zero_add b)
+      go true true = ap (λ (n : ℕ). plain (round f true n c)) (NatL.zero-add b)
       go true false = apart true false
       go false true = apart false true
-      go false false = ap (λ (n : ℕ). plain (round f false n c)) (NatL.zero_add b)
+      go false false = ap (λ (n : ℕ). plain (round f false n c)) (NatL.zero-add b)
 
   zero_times : (x y : ℕ) → 0 * x * y ≡ 0
   zero_times x y = ap (λ (n : ℕ). n * y) (zero-mul x) ∙ zero-mul y

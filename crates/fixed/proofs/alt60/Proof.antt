@@ -10,42 +10,42 @@ use Rattle.fixed.specs.Laws.Loops.{fall, fall_before, alt_turn}
 use Rattle.fixed.proofs.alt60.Statement.{statement}
 use Rattle.fixed.proofs.alt60.Tie as tie
 
-abbrev invariant_loop : tie.invariant_loop
+abbrev invariant_loop : tie.invariant-loop-i
 invariant_loop tab q s₀ i₀ s i = (i ≤ length tab) × (s ≡ alt60 q (drop i tab)) × (s ≤ get_or tab i 0)
 
-abbrev decreases_loop : tie.decreases_loop
+abbrev decreases_loop : tie.decreases-loop-i
 decreases_loop tab q s₀ i₀ s i = i
 
-loop_holds : tie.Need-loop-init invariant_loop decreases_loop
+loop_holds : tie.Need-loop-i-init invariant_loop decreases_loop
 unfolding alt60
 loop_holds c = (omega arith, subst (λ d. 0 ≡ alt60 c.before.args.q d) (sym (drop-length c.before.args.tab.now)) refl, omega arith)
 
-sub_i : tie.Need-overflow-sub-i invariant_loop decreases_loop
+sub_i : tie.Need-overflow_sub-i invariant_loop decreases_loop
 sub_i c = search rules
 
-mul_s : tie.Need-overflow-mul-s invariant_loop decreases_loop
+mul_s : tie.Need-offset_bounds-tab-i invariant_loop decreases_loop
 mul_s c = omega arith
 
-shared_slice_read_s : tie.Need-shared-slice-read-s invariant_loop decreases_loop
+shared_slice_read_s : tie.Need-bounds-tab-i invariant_loop decreases_loop
 shared_slice_read_s c = search rules
 
 mul60_requires : tie.Need-mul60-requires invariant_loop decreases_loop
-mul60_requires c κs = omega (arith, fall S60 c.before.before.before.before.args.tab.now c.before.before.before.before.requires.0 c.before.before.loop.i)
+mul60_requires c κs = omega (arith, fall S60 c.before.before.before.before.args.tab.now c.before.before.before.before.requires.0 c.before.before.loop-i.i)
 
-sub_s : tie.Need-overflow-sub-s invariant_loop decreases_loop
+sub_s : tie.Need-overflow_sub-s invariant_loop decreases_loop
 sub_s c =
     let a = c.before.before.before.before.before in
-    let l = c.before.before.before.loop in
+    let l = c.before.before.before.loop-i in
     let f = fall_before S60 a.args.tab.now a.requires.0 l.i (omega arith) in
     omega (arith, f, c.mul60.ensures.1.tight)
 
-loop_less : tie.Need-loop-smaller invariant_loop decreases_loop
+loop_less : tie.Need-loop-i-smaller invariant_loop decreases_loop
 loop_less c = search rules
 
-loop_again : tie.Need-loop-preserved invariant_loop decreases_loop
+loop_again : tie.Need-loop-i-preserved invariant_loop decreases_loop
 loop_again c =
     let a = c.before.before.before.before.before in
-    let l = c.before.before.before.loop in
+    let l = c.before.before.before.loop-i in
     let f = fall_before S60 a.args.tab.now a.requires.0 l.i (omega arith) in
     let m = c.mul60.ensures.1.tight in
     (omega arith, alt_turn a.args.q a.args.tab.now l.i (omega arith) (omega arith) l.invariant.1 c.mul60.ensures.0, omega (arith, f, m))
@@ -53,9 +53,9 @@ loop_again c =
 returns : tie.Need-returns invariant_loop decreases_loop
 returns c =
     let a = c.before.before.before in
-    let e : c.before.loop.i ≡ 0 = omega arith in (
-      subst (λ n. c.before.loop.s ≡ alt60 a.args.q (drop n a.args.tab.now)) e c.before.loop.invariant.1,
-      omega (arith, fall S60 a.args.tab.now a.requires.0 c.before.loop.i),
+    let e : c.before.loop-i.i ≡ 0 = omega arith in (
+      subst (λ n. c.before.loop-i.s ≡ alt60 a.args.q (drop n a.args.tab.now)) e c.before.loop-i.invariant.1,
+      omega (arith, fall S60 a.args.tab.now a.requires.0 c.before.loop-i.i),
     )
 
 pub alt60_spec : {M : Type 1} → statement M

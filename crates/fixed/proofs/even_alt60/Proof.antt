@@ -4,7 +4,7 @@ use borrow.Author.Rules.{rules}
 use Rattle.fixed.proofs.even_alt60.Statement.{statement}
 use Rattle.fixed.proofs.even_alt60.Tie as tie
 
-mul60_requires : tie.Need-mul60-requires
+mul60_requires : tie.Need-mul60-q-requires
 mul60_requires c κs = search rules
 
 alt60_requires : tie.Need-alt60-requires

@@ -4,7 +4,7 @@ use borrow.Author.Rules.{rules}
 use Rattle.fixed.proofs.even_ser60.Statement.{statement}
 use Rattle.fixed.proofs.even_ser60.Tie as tie
 
-mul60_requires : tie.Need-mul60-requires
+mul60_requires : tie.Need-mul60-q-requires
 mul60_requires c κs = search rules
 
 ser60_requires : tie.Need-ser60-requires

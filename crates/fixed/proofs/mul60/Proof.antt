@@ -6,19 +6,19 @@ use Rattle.fixed.specs.Laws.Words.{mul_fits, mul60_is}
 use Rattle.fixed.proofs.mul60.Statement.{statement}
 use Rattle.fixed.proofs.mul60.Tie as tie
 
-mul_result : tie.Need-overflow-mul-result
+mul_result : tie.Need-overflow_mul-result
 mul_result c = omega (arith, mul_fits c.args.a c.args.b c.requires)
 
-mul_result_2 : tie.Need-overflow-mul-result-2
+mul_result_2 : tie.Need-overflow_mul-result-2
 mul_result_2 c = omega (arith, mul_fits c.args.a c.args.b c.requires)
 
-mul_result_3 : tie.Need-overflow-mul-result-3
+mul_result_3 : tie.Need-overflow_mul-result-3
 mul_result_3 c = omega (arith, mul_fits c.args.a c.args.b c.requires)
 
-add_result : tie.Need-overflow-add-result
+add_result : tie.Need-overflow_add-result
 add_result c = omega (arith, mul_fits c.args.a c.args.b c.requires)
 
-add_result_2 : tie.Need-overflow-add-result-2
+add_result_2 : tie.Need-overflow_add-result-2
 add_result_2 c = omega (arith, mul_fits c.args.a c.args.b c.requires)
 
 returns : tie.Need-returns

@@ -51,41 +51,41 @@ module _ (n m tm g : ℕ) (et : tm ≡ mul60 m Tan52) (eg : g ≡ mul60 n Tan52)
   unfolding tilt_south tilt60
   north h e = (sym (ap (λ t. ltb n t) (sym et) ∙ le-ltb n tm h), e ∙ ap₂ quot60 (north_size n tm h ∙ ap (apart n) et) (ap (λ t. m + t) eg))
 
-mul60_requires : tie.Need-mul60-requires
+mul60_requires : tie.Need-mul60-tm-requires
 mul60_requires c κs = search rules
 
-mul60_requires_2 : tie.Need-mul60-requires-2
+mul60_requires_2 : tie.Need-mul60-requires
 mul60_requires_2 c κs = search rules
 
-add_den : tie.Need-overflow-add-den
-add_den c = omega (arith, (fits c.before.before.requires c.before.mul60.ensures.1 c.mul602.ensures.1).den_high)
+add_den : tie.Need-overflow_add-den
+add_den c = omega (arith, (fits c.before.before.requires c.before.mul60-tm.ensures.1 c.mul60.ensures.1).den_high)
 
-sub_quot60 : tie.Need-overflow-sub-quot60
+sub_quot60 : tie.Need-overflow_sub-tm
 sub_quot60 c = search rules
 
-quot60_requires : tie.Need-quot60-requires
+quot60_requires : tie.Need-quot60-size-requires
 quot60_requires c κs =
     let p = c.before.before.before.requires in
-    let f = fits p c.before.before.mul60.ensures.1 c.before.mul602.ensures.1 in
+    let f = fits p c.before.before.mul60-tm.ensures.1 c.before.mul60.ensures.1 in
     asked _ _ _ _ _ f (omega (arith, f.tm_high))
 
-quot60_requires_2 : tie.Need-quot60-requires-2
+quot60_requires_2 : tie.Need-quot60-size-requires-else-n-tm
 quot60_requires_2 c κs =
     let p = c.before.before.before.requires in
-    let f = fits p c.before.before.mul60.ensures.1 c.before.mul602.ensures.1 in
+    let f = fits p c.before.before.mul60-tm.ensures.1 c.before.mul60.ensures.1 in
     asked _ _ _ _ _ f (omega (arith, p.1))
 
-returns : tie.Need-returns
+returns : tie.Need-returns-then-n-tm
 returns c =
     let p = c.before.before.before.before.requires in
-    let f = fits p c.before.before.before.mul60.ensures.1 c.before.before.mul602.ensures.1 in
-    (south c.before.before.before.before.args.n c.before.before.before.before.args.m c.before.before.before.mul60.result c.before.before.mul602.result c.before.before.before.mul60.ensures.0 c.before.before.mul602.ensures.0 c.before.if1.true c.quot60.ensures.0, small f c.quot60.ensures.1 (omega (arith, f.tm_high)))
+    let f = fits p c.before.before.before.mul60-tm.ensures.1 c.before.before.mul60.ensures.1 in
+    (south c.before.before.before.before.args.n c.before.before.before.before.args.m c.before.before.before.mul60-tm.result c.before.before.mul60.result c.before.before.before.mul60-tm.ensures.0 c.before.before.mul60.ensures.0 c.before.if-n-tm.true c.quot60-size.ensures.0, small f c.quot60-size.ensures.1 (omega (arith, f.tm_high)))
 
-returns_2 : tie.Need-returns-2
+returns_2 : tie.Need-returns-else-n-tm
 returns_2 c =
     let p = c.before.before.before.before.requires in
-    let f = fits p c.before.before.before.mul60.ensures.1 c.before.before.mul602.ensures.1 in
-    (north c.before.before.before.before.args.n c.before.before.before.before.args.m c.before.before.before.mul60.result c.before.before.mul602.result c.before.before.before.mul60.ensures.0 c.before.before.mul602.ensures.0 c.before.if1.false c.quot602.ensures.0, small f c.quot602.ensures.1 (omega (arith, p.1)))
+    let f = fits p c.before.before.before.mul60-tm.ensures.1 c.before.before.mul60.ensures.1 in
+    (north c.before.before.before.before.args.n c.before.before.before.before.args.m c.before.before.before.mul60-tm.result c.before.before.mul60.result c.before.before.before.mul60-tm.ensures.0 c.before.before.mul60.ensures.0 c.before.if-n-tm.false c.quot60-size-else-n-tm.ensures.0, small f c.quot60-size-else-n-tm.ensures.1 (omega (arith, p.1)))
 
 pub tilt60_spec : {M : Type 1} → statement M
 tilt60_spec =

@@ -7,44 +7,44 @@ use borrow.Author.Rules.{rules}
 use Rattle.lines.proofs.spell.Statement.{statement}
 use Rattle.lines.proofs.spell.Tie as tie
 
-abbrev invariant_loop : tie.invariant_loop
+abbrev invariant_loop : tie.invariant-loop-rest
 invariant_loop n digits₀ rest₀ at₀ digits rest at = Spelling n digits rest at
 
-abbrev decreases_loop : tie.decreases_loop
+abbrev decreases_loop : tie.decreases-loop-rest
 decreases_loop n digits₀ rest₀ at₀ digits rest at = at
 
-cast_digits : tie.Need-overflow-cast-digits invariant_loop decreases_loop
+cast_digits : tie.Need-overflow_cast-digits invariant_loop decreases_loop
 cast_digits c = search rules
 
-add_digits : tie.Need-overflow-add-digits invariant_loop decreases_loop
+add_digits : tie.Need-overflow_add-digits invariant_loop decreases_loop
 add_digits c = search rules
 
-array_write_digits : tie.Need-array-write-digits invariant_loop decreases_loop
+array_write_digits : tie.Need-bounds-digits-19 invariant_loop decreases_loop
 array_write_digits c = search rules
 
-loop_holds : tie.Need-loop-init invariant_loop decreases_loop
+loop_holds : tie.Need-loop-rest-init invariant_loop decreases_loop
 loop_holds c = starts c.args.n (replicate 20 48) c.ranges.n.fits refl
 
-sub_at : tie.Need-overflow-sub-at invariant_loop decreases_loop
-sub_at c = above c.before.loop.invariant c.loop-test.true
+sub_at : tie.Need-overflow_sub-at invariant_loop decreases_loop
+sub_at c = above c.before.loop-rest.invariant c.loop-rest-test.true
 
-cast_digits_2 : tie.Need-overflow-cast-digits-2 invariant_loop decreases_loop
+cast_digits_2 : tie.Need-overflow_cast-digits-in-loop-rest invariant_loop decreases_loop
 cast_digits_2 c = search rules
 
-add_digits_2 : tie.Need-overflow-add-digits-2 invariant_loop decreases_loop
+add_digits_2 : tie.Need-overflow_add-digits-in-loop-rest invariant_loop decreases_loop
 add_digits_2 c = search rules
 
-array_write_digits_2 : tie.Need-array-write-digits-2 invariant_loop decreases_loop
+array_write_digits_2 : tie.Need-bounds-digits-at invariant_loop decreases_loop
 array_write_digits_2 c = search rules
 
-loop_less : tie.Need-loop-smaller invariant_loop decreases_loop
-loop_less c = let h = above c.before.loop.invariant c.loop-test.true in omega arith
+loop_less : tie.Need-loop-rest-smaller invariant_loop decreases_loop
+loop_less c = let h = above c.before.loop-rest.invariant c.loop-rest-test.true in omega arith
 
-loop_again : tie.Need-loop-preserved invariant_loop decreases_loop
-loop_again c = turned c.before.loop.at c.before.loop.invariant c.loop-test.true
+loop_again : tie.Need-loop-rest-preserved invariant_loop decreases_loop
+loop_again c = turned c.before.loop-rest.at c.before.loop-rest.invariant c.loop-rest-test.true
 
 returns : tie.Need-returns invariant_loop decreases_loop
-returns c = (c.before.loop.invariant.low, c.before.loop.invariant.long, ended c.before.loop.at c.before.loop.invariant c.loop-test.false)
+returns c = (c.before.loop-rest.invariant.low, c.before.loop-rest.invariant.long, ended c.before.loop-rest.at c.before.loop-rest.invariant c.loop-rest-test.false)
 
 pub spell_spec : {M : Type 1} → statement M
 spell_spec =

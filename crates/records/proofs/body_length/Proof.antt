@@ -6,30 +6,30 @@ use Rattle.records.proofs.Laws.{no_kind}
 use Rattle.records.proofs.body_length.Statement.{statement}
 use Rattle.records.proofs.body_length.Tie as tie
 
-returns : tie.Need-returns
+returns : tie.Need-returns-then-kind-eq1
 unfolding length_of find_kind kinds
-returns c = rw c.if1.true refl
+returns c = rw c.if-kind-eq1.true refl
 
-returns_2 : tie.Need-returns-2
+returns_2 : tie.Need-returns-then-kind-eq2
 unfolding length_of find_kind kinds
-returns_2 c = rw c.if2.true refl
+returns_2 c = rw c.if-kind-eq2.true refl
 
-returns_3 : tie.Need-returns-3
+returns_3 : tie.Need-returns-then-kind-eq3
 unfolding length_of find_kind kinds
-returns_3 c = rw c.if3.true refl
+returns_3 c = rw c.if-kind-eq3.true refl
 
-returns_4 : tie.Need-returns-4
+returns_4 : tie.Need-returns-then-kind-eq4
 unfolding length_of find_kind kinds
-returns_4 c = rw c.if4.true refl
+returns_4 c = rw c.if-kind-eq4.true refl
 
-returns_5 : tie.Need-returns-5
+returns_5 : tie.Need-returns-then-kind-eq5
 unfolding length_of find_kind kinds
-returns_5 c = rw c.if5.true refl
+returns_5 c = rw c.if-kind-eq5.true refl
 
-returns_6 : tie.Need-returns-6
+returns_6 : tie.Need-returns
 unfolding length_of
 returns_6 c =
-    rw (no_kind _ c.before.before.before.before.if1.false c.before.before.before.if2.false c.before.before.if3.false c.before.if4.false c.if5.false) refl
+    rw (no_kind _ c.before.before.before.before.if-kind-eq1.false c.before.before.before.if-kind-eq2.false c.before.before.if-kind-eq3.false c.before.if-kind-eq4.false c.if-kind-eq5.false) refl
 
 pub body_length_spec : {M : Type 1} → statement M
 body_length_spec = tie.close (tie.spec returns returns_2 returns_3 returns_4 returns_5 returns_6)

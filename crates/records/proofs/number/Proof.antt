@@ -7,15 +7,15 @@ use borrow.Author.Rules.{rules}
 use Rattle.records.proofs.number.Statement.{statement}
 use Rattle.records.proofs.number.Tie as tie
 
-as_written_requires : tie.Need-as-written-requires
+as_written_requires : tie.Need-as_written-requires
 as_written_requires c κs = search rules
 
-as_signed_requires : tie.Need-as-signed-requires
+as_signed_requires : tie.Need-as_signed-requires
 as_signed_requires c κs = search rules
 
 returns : tie.Need-returns
 returns c =
-    to_z-of_z (record { sfits = c.as-signed.type-inv }) ∙ c.as-signed.ensures ∙ ap signed c.before.as_written.ensures
+    to_z-of_z (record { sfits = c.as_signed.type_inv }) ∙ c.as_signed.ensures ∙ ap signed c.before.as_written.ensures
     ∙ number_is c.before.before.before.args.at c.before.before.before.args.body.now c.before.before.before.requires
 
 pub number_spec : {M : Type 1} → statement M

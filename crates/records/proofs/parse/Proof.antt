@@ -4,53 +4,53 @@ use Rattle.records.proofs.Laws.{one_long, two_long, four_long, five, five_long, 
 use Rattle.records.proofs.parse.Statement.{statement}
 use Rattle.records.proofs.parse.Tie as tie
 
-shared_slice_read_t5 : tie.Need-shared-slice-read-t5
-shared_slice_read_t5 c = let e = one_long _ _ c.before.before.before.requires c.before.if1.true in omega arith
+shared_slice_read_t5 : tie.Need-bounds-body-0
+shared_slice_read_t5 c = let e = one_long _ _ c.before.before.before.requires c.before.if-kind-eq1.true in omega arith
 
-returns : tie.Need-returns
+returns : tie.Need-returns-then-kind-eq1
 returns c =
-    let e = one_long _ _ c.before.before.before.requires c.before.if1.true in begins c.before.before.before.args.body.now c.before.if1.true (omega arith)
+    let e = one_long _ _ c.before.before.before.requires c.before.if-kind-eq1.true in begins c.before.before.before.args.body.now c.before.if-kind-eq1.true (omega arith)
 
 number_requires : tie.Need-number-requires
-number_requires c κs = let e = two_long _ _ c.before.before.before.requires c.if2.true in omega arith
+number_requires c κs = let e = two_long _ _ c.before.before.before.requires c.if-kind-eq2.true in omega arith
 
-number_requires_2 : tie.Need-number-requires-2
-number_requires_2 c κs = let e = two_long _ _ c.before.before.before.before.requires c.before.if2.true in omega arith
+number_requires_2 : tie.Need-number-requires-then-kind-eq2
+number_requires_2 c κs = let e = two_long _ _ c.before.before.before.before.requires c.before.if-kind-eq2.true in omega arith
 
-returns_2 : tie.Need-returns-2
+returns_2 : tie.Need-returns-then-kind-eq2
 returns_2 c =
-    corners c.before.before.before.before.before.args.body.now c.before.before.if2.true (back c.before.number.type-inv c.before.number.ensures) (back c.number2.type-inv c.number2.ensures)
+    corners c.before.before.before.before.before.args.body.now c.before.before.if-kind-eq2.true (back c.before.number.type_inv c.before.number.ensures) (back c.number-then-kind-eq2.type_inv c.number-then-kind-eq2.ensures)
 
-returns_3 : tie.Need-returns-3
-returns_3 c = closes c.before.before.before.before.args.body.now c.if3.true
+returns_3 : tie.Need-returns-then-kind-eq3
+returns_3 c = closes c.before.before.before.before.args.body.now c.if-kind-eq3.true
 
-number_requires_3 : tie.Need-number-requires-3
-number_requires_3 c κs = let e = four_long _ _ c.before.before.before.before.before.requires c.if4.true in omega arith
+number_requires_3 : tie.Need-number-requires-then-kind-eq4
+number_requires_3 c κs = let e = four_long _ _ c.before.before.before.before.before.requires c.if-kind-eq4.true in omega arith
 
-number_requires_4 : tie.Need-number-requires-4
-number_requires_4 c κs = let e = four_long _ _ c.before.before.before.before.before.before.requires c.before.if4.true in omega arith
+number_requires_4 : tie.Need-number-requires-then-kind-eq4-2
+number_requires_4 c κs = let e = four_long _ _ c.before.before.before.before.before.before.requires c.before.if-kind-eq4.true in omega arith
 
-returns_4 : tie.Need-returns-4
+returns_4 : tie.Need-returns-then-kind-eq4
 returns_4 c =
-    queries c.before.before.before.before.before.before.before.args.body.now c.before.before.if4.true (back c.before.number3.type-inv c.before.number3.ensures) (back c.number4.type-inv c.number4.ensures)
+    queries c.before.before.before.before.before.before.before.args.body.now c.before.before.if-kind-eq4.true (back c.before.number-then-kind-eq4.type_inv c.before.number-then-kind-eq4.ensures) (back c.number-then-kind-eq4-2.type_inv c.number-then-kind-eq4-2.ensures)
 
-shared_slice_read_t11 : tie.Need-shared-slice-read-t11
+shared_slice_read_t11 : tie.Need-bounds-body-0-2
 shared_slice_read_t11 c =
-    let e = five_long _ _ c.before.before.before.before.before.before.requires c.before.before.before.before.if1.false c.before.before.before.if2.false c.before.before.if3.false c.before.if4.false in omega arith
+    let e = five_long _ _ c.before.before.before.before.before.before.requires c.before.before.before.before.if-kind-eq1.false c.before.before.before.if-kind-eq2.false c.before.before.if-kind-eq3.false c.before.if-kind-eq4.false in omega arith
 
-number_requires_5 : tie.Need-number-requires-5
+number_requires_5 : tie.Need-number-requires-2
 number_requires_5 c κs =
-    let e = five_long _ _ c.before.before.before.before.before.before.requires c.before.before.before.before.if1.false c.before.before.before.if2.false c.before.before.if3.false c.before.if4.false in omega arith
+    let e = five_long _ _ c.before.before.before.before.before.before.requires c.before.before.before.before.if-kind-eq1.false c.before.before.before.if-kind-eq2.false c.before.before.if-kind-eq3.false c.before.if-kind-eq4.false in omega arith
 
-number_requires_6 : tie.Need-number-requires-6
+number_requires_6 : tie.Need-number-requires-3
 number_requires_6 c κs =
-    let e = five_long _ _ c.before.before.before.before.before.before.before.requires c.before.before.before.before.before.if1.false c.before.before.before.before.if2.false c.before.before.before.if3.false c.before.before.if4.false in omega arith
+    let e = five_long _ _ c.before.before.before.before.before.before.before.requires c.before.before.before.before.before.if-kind-eq1.false c.before.before.before.before.if-kind-eq2.false c.before.before.before.if-kind-eq3.false c.before.before.if-kind-eq4.false in omega arith
 
-returns_5 : tie.Need-returns-5
+returns_5 : tie.Need-returns
 returns_5 c =
-    let e = five_long _ _ c.before.before.before.before.before.before.before.before.requires c.before.before.before.before.before.before.if1.false c.before.before.before.before.before.if2.false c.before.before.before.before.if3.false c.before.before.before.if4.false in
-    points c.before.before.before.before.before.before.before.before.args.body.now (five _ _ c.before.before.before.before.before.before.before.before.requires c.before.before.before.before.before.before.if1.false c.before.before.before.before.before.if2.false c.before.before.before.before.if3.false c.before.before.before.if4.false) (omega arith)
-    (back c.before.number5.type-inv c.before.number5.ensures) (back c.number6.type-inv c.number6.ensures)
+    let e = five_long _ _ c.before.before.before.before.before.before.before.before.requires c.before.before.before.before.before.before.if-kind-eq1.false c.before.before.before.before.before.if-kind-eq2.false c.before.before.before.before.if-kind-eq3.false c.before.before.before.if-kind-eq4.false in
+    points c.before.before.before.before.before.before.before.before.args.body.now (five _ _ c.before.before.before.before.before.before.before.before.requires c.before.before.before.before.before.before.if-kind-eq1.false c.before.before.before.before.before.if-kind-eq2.false c.before.before.before.before.if-kind-eq3.false c.before.before.before.if-kind-eq4.false) (omega arith)
+    (back c.before.number-2.type_inv c.before.number-2.ensures) (back c.number-3.type_inv c.number-3.ensures)
 
 pub parse_spec : {M : Type 1} → statement M
 parse_spec =

@@ -4,14 +4,14 @@ use borrow.Author.Rules.{rules}
 use Rattle.records.proofs.wide.Statement.{statement}
 use Rattle.records.proofs.wide.Tie as tie
 
-shared_slice_read_result : tie.Need-shared-slice-read-result
+shared_slice_read_result : tie.Need-bounds-body-i
 shared_slice_read_result c = search rules
 
-cast_result : tie.Need-overflow-cast-result
-cast_result c = omega (arith, c.shared-slice-known.given c.before.args.i)
+cast_result : tie.Need-overflow_cast-result
+cast_result c = omega (arith, c.shared_slice_known-1.given c.before.args.i)
 
 returns : tie.Need-returns
-returns c = (search rules, omega (arith, c.shared-slice-known.given c.before.args.i))
+returns c = (search rules, omega (arith, c.shared_slice_known-1.given c.before.args.i))
 
 pub wide_spec : {M : Type 1} → statement M
 wide_spec = tie.close (tie.spec shared_slice_read_result cast_result returns)

@@ -16,82 +16,82 @@ use Rattle.systems.proofs.find_zone.Tie as tie
 at : (code k : ℕ) (z : Zone) → code ≡ k → Found k (Known z) → Found code (Known z)
 at code k z e f = subst (λ n. Found n (Known z)) (sym e) f
 
-returns : tie.Need-returns
+returns : tie.Need-returns-in-1
 unfolding system find table
-returns c = at c.before.args.code 1 _ c.match.keys1 (row 1 _ refl tt tt)
+returns c = at c.before.args.code 1 _ c.in-1.is (row 1 _ refl tt tt)
 
-returns_2 : tie.Need-returns-2
+returns_2 : tie.Need-returns-in-2
 unfolding system find table
-returns_2 c = at c.before.args.code 2 _ c.match.keys2 (row 2 _ refl tt tt)
+returns_2 c = at c.before.args.code 2 _ c.in-2.is (row 2 _ refl tt tt)
 
-returns_3 : tie.Need-returns-3
+returns_3 : tie.Need-returns-in-3
 unfolding system find table
-returns_3 c = at c.before.args.code 3 _ c.match.keys3 (row 3 _ refl tt tt)
+returns_3 c = at c.before.args.code 3 _ c.in-3.is (row 3 _ refl tt tt)
 
-returns_4 : tie.Need-returns-4
+returns_4 : tie.Need-returns-in-4
 unfolding system find table
-returns_4 c = at c.before.args.code 4 _ c.match.keys4 (row 4 _ refl tt tt)
+returns_4 c = at c.before.args.code 4 _ c.in-4.is (row 4 _ refl tt tt)
 
-returns_5 : tie.Need-returns-5
+returns_5 : tie.Need-returns-in-5
 unfolding system find table
-returns_5 c = at c.before.args.code 5 _ c.match.keys5 (row 5 _ refl tt tt)
+returns_5 c = at c.before.args.code 5 _ c.in-5.is (row 5 _ refl tt tt)
 
-returns_6 : tie.Need-returns-6
+returns_6 : tie.Need-returns-in-6
 unfolding system find table
-returns_6 c = at c.before.args.code 6 _ c.match.keys6 (row 6 _ refl tt tt)
+returns_6 c = at c.before.args.code 6 _ c.in-6.is (row 6 _ refl tt tt)
 
-returns_7 : tie.Need-returns-7
+returns_7 : tie.Need-returns-in-7
 unfolding system find table
-returns_7 c = at c.before.args.code 7 _ c.match.keys7 (row 7 _ refl tt tt)
+returns_7 c = at c.before.args.code 7 _ c.in-7.is (row 7 _ refl tt tt)
 
-returns_8 : tie.Need-returns-8
+returns_8 : tie.Need-returns-in-8
 unfolding system find table
-returns_8 c = at c.before.args.code 8 _ c.match.keys8 (row 8 _ refl tt tt)
+returns_8 c = at c.before.args.code 8 _ c.in-8.is (row 8 _ refl tt tt)
 
-returns_9 : tie.Need-returns-9
+returns_9 : tie.Need-returns-in-9
 unfolding system find table
-returns_9 c = at c.before.args.code 9 _ c.match.keys9 (row 9 _ refl tt tt)
+returns_9 c = at c.before.args.code 9 _ c.in-9.is (row 9 _ refl tt tt)
 
-returns_10 : tie.Need-returns-10
+returns_10 : tie.Need-returns-in-10
 unfolding system find table
-returns_10 c = at c.before.args.code 10 _ c.match.keys10 (row 10 _ refl tt tt)
+returns_10 c = at c.before.args.code 10 _ c.in-10.is (row 10 _ refl tt tt)
 
-returns_11 : tie.Need-returns-11
+returns_11 : tie.Need-returns-in-11
 unfolding system find table
-returns_11 c = at c.before.args.code 11 _ c.match.keys11 (row 11 _ refl tt tt)
+returns_11 c = at c.before.args.code 11 _ c.in-11.is (row 11 _ refl tt tt)
 
-returns_12 : tie.Need-returns-12
+returns_12 : tie.Need-returns-in-12
 unfolding system find table
-returns_12 c = at c.before.args.code 12 _ c.match.keys12 (row 12 _ refl tt tt)
+returns_12 c = at c.before.args.code 12 _ c.in-12.is (row 12 _ refl tt tt)
 
-returns_13 : tie.Need-returns-13
+returns_13 : tie.Need-returns-in-13
 unfolding system find table
-returns_13 c = at c.before.args.code 13 _ c.match.keys13 (row 13 _ refl tt tt)
+returns_13 c = at c.before.args.code 13 _ c.in-13.is (row 13 _ refl tt tt)
 
-returns_14 : tie.Need-returns-14
+returns_14 : tie.Need-returns-in-14
 unfolding system find table
-returns_14 c = at c.before.args.code 14 _ c.match.keys14 (row 14 _ refl tt tt)
+returns_14 c = at c.before.args.code 14 _ c.in-14.is (row 14 _ refl tt tt)
 
 -- a number that is at least k and is not k is more
 next : (k n : ℕ) → k ≤ n → (n ≡ k → ⊥) → suc k ≤ n
 next k n l h = omega arith
 
-returns_15 : tie.Need-returns-15
+returns_15 : tie.Need-returns-in_default
 returns_15 c = unknown c.before.args.code λ h.
-    let n1 = next 1 _ h.0 c.match.rest.0.0.0.0.0.0.0.0.0.0.0.0.0.1 in
-    let n2 = next 2 _ (n1) c.match.rest.0.0.0.0.0.0.0.0.0.0.0.0.1 in
-    let n3 = next 3 _ (n2) c.match.rest.0.0.0.0.0.0.0.0.0.0.0.1 in
-    let n4 = next 4 _ (n3) c.match.rest.0.0.0.0.0.0.0.0.0.0.1 in
-    let n5 = next 5 _ (n4) c.match.rest.0.0.0.0.0.0.0.0.0.1 in
-    let n6 = next 6 _ (n5) c.match.rest.0.0.0.0.0.0.0.0.1 in
-    let n7 = next 7 _ (n6) c.match.rest.0.0.0.0.0.0.0.1 in
-    let n8 = next 8 _ (n7) c.match.rest.0.0.0.0.0.0.1 in
-    let n9 = next 9 _ (n8) c.match.rest.0.0.0.0.0.1 in
-    let n10 = next 10 _ (n9) c.match.rest.0.0.0.0.1 in
-    let n11 = next 11 _ (n10) c.match.rest.0.0.0.1 in
-    let n12 = next 12 _ (n11) c.match.rest.0.0.1 in
-    let n13 = next 13 _ (n12) c.match.rest.0.1 in
-    let n14 = next 14 _ (n13) c.match.rest.1 in
+    let n1 = next 1 _ h.0 c.in_default.in_default-own.rest.0.0.0.0.0.0.0.0.0.0.0.0.0.1 in
+    let n2 = next 2 _ (n1) c.in_default.in_default-own.rest.0.0.0.0.0.0.0.0.0.0.0.0.1 in
+    let n3 = next 3 _ (n2) c.in_default.in_default-own.rest.0.0.0.0.0.0.0.0.0.0.0.1 in
+    let n4 = next 4 _ (n3) c.in_default.in_default-own.rest.0.0.0.0.0.0.0.0.0.0.1 in
+    let n5 = next 5 _ (n4) c.in_default.in_default-own.rest.0.0.0.0.0.0.0.0.0.1 in
+    let n6 = next 6 _ (n5) c.in_default.in_default-own.rest.0.0.0.0.0.0.0.0.1 in
+    let n7 = next 7 _ (n6) c.in_default.in_default-own.rest.0.0.0.0.0.0.0.1 in
+    let n8 = next 8 _ (n7) c.in_default.in_default-own.rest.0.0.0.0.0.0.1 in
+    let n9 = next 9 _ (n8) c.in_default.in_default-own.rest.0.0.0.0.0.1 in
+    let n10 = next 10 _ (n9) c.in_default.in_default-own.rest.0.0.0.0.1 in
+    let n11 = next 11 _ (n10) c.in_default.in_default-own.rest.0.0.0.1 in
+    let n12 = next 12 _ (n11) c.in_default.in_default-own.rest.0.0.1 in
+    let n13 = next 13 _ (n12) c.in_default.in_default-own.rest.0.1 in
+    let n14 = next 14 _ (n13) c.in_default.in_default-own.rest.1 in
     omega arith
 
 pub find_zone_spec : {M : Type 1} → statement M

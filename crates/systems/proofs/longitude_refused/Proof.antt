@@ -11,10 +11,10 @@ use Rattle.systems.proofs.longitude_refused.Reads as reads
 use Rattle.systems.proofs.longitude_refused.Lts as lts
 use Rattle.systems.proofs.outside.Reads as outside_reads
 
-sub_west : tie.Need-overflow-sub-west
+sub_west : tie.Need-overflow_sub-west
 sub_west c = need_sub (v_in w64 c.before.before.args.zone.meridian c.before.before.requires.meridian tt) (v_in w64 c.before.before.args.zone.reach c.before.before.requires.reach tt) tt
 
-add_east : tie.Need-overflow-add-east
+add_east : tie.Need-overflow_add-east
 add_east c =
     let s = c.before.before.before.before in
     need_add (v_in w64 s.args.zone.meridian s.requires.meridian tt) (v_in w64 s.args.zone.reach s.requires.reach tt) tt

@@ -6,13 +6,13 @@ use mir.Facts.{to_z-of_z}
 use Rattle.systems.proofs.outside.Statement.{statement}
 use Rattle.systems.proofs.outside.Tie as tie
 
-returns : tie.Need-returns
-returns c = sym (ap (λ b. b || lt_z c.before.args.high c.before.args.number) (sym (ap₂ lt_z (to_z-of_z c.before.ranges.number) (to_z-of_z c.before.ranges.low)) ∙ c.if1.true))
+returns : tie.Need-returns-then-number-low
+returns c = sym (ap (λ b. b || lt_z c.before.args.high c.before.args.number) (sym (ap₂ lt_z (to_z-of_z c.before.ranges.number) (to_z-of_z c.before.ranges.low)) ∙ c.if-number-low.true))
 
-returns_2 : tie.Need-returns-2
+returns_2 : tie.Need-returns
 returns_2 c =
     ap₂ lt_z (to_z-of_z c.before.ranges.high) (to_z-of_z c.before.ranges.number)
-    ∙ sym (ap (λ b. b || lt_z c.before.args.high c.before.args.number) (sym (ap₂ lt_z (to_z-of_z c.before.ranges.number) (to_z-of_z c.before.ranges.low)) ∙ c.if1.false))
+    ∙ sym (ap (λ b. b || lt_z c.before.args.high c.before.args.number) (sym (ap₂ lt_z (to_z-of_z c.before.ranges.number) (to_z-of_z c.before.ranges.low)) ∙ c.if-number-low.false))
 
 pub outside_spec : {M : Type 1} → statement M
 outside_spec = tie.close (tie.spec returns returns_2)

@@ -8,16 +8,16 @@ use Rattle.arith.specs.Laws.Machine.{v_arg, v_add, v_mul, need_add, need_mul}
 use Rattle.systems.proofs.outside_box.Statement.{statement}
 use Rattle.systems.proofs.outside_box.Tie as tie
 
-mul_least : tie.Need-overflow-mul-least
+mul_least : tie.Need-overflow_mul-least
 mul_least c = need_mul (v_arg c.ranges.millionths c.requires.1) (v_arg c.ranges.low c.requires.2) tt
 
-add_least : tie.Need-overflow-add-least
+add_least : tie.Need-overflow_add-least
 add_least c = need_add (v_arg c.ranges.offset c.requires.0) (v_mul w64 (v_arg c.ranges.millionths c.requires.1) (v_arg c.ranges.low c.requires.2) tt) tt
 
-mul_most : tie.Need-overflow-mul-most
+mul_most : tie.Need-overflow_mul-most
 mul_most c = need_mul (v_arg c.ranges.millionths c.requires.1) (v_arg c.ranges.high c.requires.3) tt
 
-add_most : tie.Need-overflow-add-most
+add_most : tie.Need-overflow_add-most
 add_most c = need_add (v_arg c.ranges.offset c.requires.0) (v_mul w64 (v_arg c.ranges.millionths c.requires.1) (v_arg c.ranges.high c.requires.3) tt) tt
 
 outside_requires : tie.Need-outside-requires

@@ -17,7 +17,7 @@ use Rattle.systems.proofs.plane_refused.Tie as tie
 abbrev given : ℤ → ℤ
 given z = to_z w64 (of_z w64 z)
 
-outside_box_requires : tie.Need-outside-box-requires
+outside_box_requires : tie.Need-outside_box-requires
 outside_box_requires c κs = search rules
 
 module _ (z : Zone) (h : Sized z) where
@@ -30,23 +30,23 @@ module _ (z : Zone) (h : Sized z) where
       ≡ beyond (z.east +ℤ z.millionths *ℤ neg_ℤ (pos 420)) (z.east +ℤ z.millionths *ℤ pos 420) y
   east_given y f = same_box (neg_ℤ (pos 420)) (pos 420) (v_in w64 z.east h.east tt).is (v_in w64 z.millionths h.millionths tt).is (to_z-of_z f)
 
-returns : tie.Need-returns
+returns : tie.Need-returns-then-outside_box
 returns c s h =
     let b = c.before.before.before.before in
     sym (plane_limits b.args.zone s h b.args.x b.args.y
     ∙ ap (λ t. t || beyond (b.args.zone.east +ℤ b.args.zone.millionths *ℤ neg_ℤ (pos 420)) (b.args.zone.east +ℤ b.args.zone.millionths *ℤ pos 420) b.args.y)
-    (sym (c.before.outside-box.ensures ∙ north_given b.args.zone b.requires b.args.x b.ranges.x) ∙ c.if1.true))
+    (sym (c.before.outside_box.ensures ∙ north_given b.args.zone b.requires b.args.x b.ranges.x) ∙ c.if-outside_box.true))
 
-outside_box_requires_2 : tie.Need-outside-box-requires-2
+outside_box_requires_2 : tie.Need-outside_box-requires-2
 outside_box_requires_2 c κs = search rules
 
-returns_2 : tie.Need-returns-2
+returns_2 : tie.Need-returns
 returns_2 c s h =
     let b = c.before.before.before.before.before.before.before in
     sym (plane_limits b.args.zone s h b.args.x b.args.y
     ∙ ap₂ ◌||◌
-    (sym (c.before.before.before.before.outside-box.ensures ∙ north_given b.args.zone b.requires b.args.x b.ranges.x) ∙ c.before.before.before.if1.false)
-    (sym (c.outside-box2.ensures ∙ east_given b.args.zone b.requires b.args.y b.ranges.y)))
+    (sym (c.before.before.before.before.outside_box.ensures ∙ north_given b.args.zone b.requires b.args.x b.ranges.x) ∙ c.before.before.before.if-outside_box.false)
+    (sym (c.outside_box-2.ensures ∙ east_given b.args.zone b.requires b.args.y b.ranges.y)))
 
 pub plane_refused_spec : {M : Type 1} → statement M
 plane_refused_spec = tie.close (tie.spec outside_box_requires returns outside_box_requires_2 returns_2)

@@ -7,7 +7,7 @@ use Rattle.double.specs.Exact.{doubles, nearest_double}
 use Rattle.double.proofs.series.derivative_grs80.Statement.{statement}
 use Rattle.double.proofs.series.derivative_grs80.Tie as tie
 
-slice_aggregate_polynomial : tie.Need-slice-aggregate-polynomial
+slice_aggregate_polynomial : tie.Need-slice_bounds-polynomial-end
 slice_aggregate_polynomial c = search rules
 
 polynomial_requires : tie.Need-polynomial-requires

@@ -6,7 +6,7 @@ use Rattle.double.specs.Exact.{doubles, nearest_double}
 use Rattle.double.proofs.series.forward_krasovsky.Statement.{statement}
 use Rattle.double.proofs.series.forward_krasovsky.Tie as tie
 
-slice_aggregate_polynomial : tie.Need-slice-aggregate-polynomial
+slice_aggregate_polynomial : tie.Need-slice_bounds-polynomial-end
 slice_aggregate_polynomial c = search rules
 
 polynomial_requires : tie.Need-polynomial-requires

@@ -11,57 +11,57 @@ use borrow.Author.Rules.{rules}
 use Rattle.lines.proofs.Line.put.Statement.{statement}
 use Rattle.lines.proofs.Line.put.Tie as tie
 
-abbrev invariant_loop : tie.invariant_loop
+abbrev invariant_loop : tie.invariant-loop-j
 invariant_loop out₀ at self n j₀ out j = (out ≡ paste out₀ at self.bytes j) × (j ≤ n) × (length out ≡ length out₀)
 
-abbrev decreases_loop : tie.decreases_loop
+abbrev decreases_loop : tie.decreases-loop-j
 decreases_loop out₀ at self n j₀ out j = n - j
 
-loop_holds : tie.Need-loop-init invariant_loop decreases_loop
-loop_holds c = (paste-zero c.args.out.now c.args.at c.args.t1.bytes, omega arith, refl)
+loop_holds : tie.Need-loop-j-init invariant_loop decreases_loop
+loop_holds c = (paste-zero c.args.out-1.now c.args.at c.args.t1.bytes, omega arith, refl)
 
-element_copy_out_out : tie.Need-element-copy-out-out invariant_loop decreases_loop
+element_copy_out_out : tie.Need-bounds-self-j invariant_loop decreases_loop
 element_copy_out_out c = search rules
 
-add_out : tie.Need-overflow-add-out invariant_loop decreases_loop
+add_out : tie.Need-overflow_add-out invariant_loop decreases_loop
 add_out c = search rules
 
-slice_write_out : tie.Need-slice-write-out invariant_loop decreases_loop
+slice_write_out : tie.Need-bounds-out-at invariant_loop decreases_loop
 slice_write_out c = search rules
 
-add_j : tie.Need-overflow-add-j invariant_loop decreases_loop
+add_j : tie.Need-overflow_add-j invariant_loop decreases_loop
 add_j c = search rules
 
-loop_less : tie.Need-loop-smaller invariant_loop decreases_loop
+loop_less : tie.Need-loop-j-smaller invariant_loop decreases_loop
 loop_less c = search rules
 
-loop_again : tie.Need-loop-preserved invariant_loop decreases_loop
+loop_again : tie.Need-loop-j-preserved invariant_loop decreases_loop
 loop_again c =
     let st = c.before.before.before in
-    let lp = c.before.before.loop in
-    let h : lp.j < st.args.t1.count = c.before.loop-test.true in
+    let lp = c.before.before.loop-j in
+    let h : lp.j < st.args.t1.count = c.before.loop-j-test.true in
     let e : length st.args.t1.bytes ≡ 128 = search rules in (
       ap (λ (l : List ℕ). set l (st.args.at + lp.j) (get_or st.args.t1.bytes lp.j 0)) lp.invariant.0
-          ∙ paste-suc st.args.out.now st.args.at st.args.t1.bytes lp.j 0 (omega arith) (omega arith)
-          ∙ ap (λ (k : ℕ). paste st.args.out.now st.args.at st.args.t1.bytes k) (sym (add-one lp.j)),
+          ∙ paste-suc st.args.out-1.now st.args.at st.args.t1.bytes lp.j 0 (omega arith) (omega arith)
+          ∙ ap (λ (k : ℕ). paste st.args.out-1.now st.args.at st.args.t1.bytes k) (sym (add-one lp.j)),
       omega arith,
-      length-set lp.out (st.args.at + lp.j) (get_or st.args.t1.bytes lp.j 0) ∙ lp.invariant.2,
+      length-set lp.out-1 (st.args.at + lp.j) (get_or st.args.t1.bytes lp.j 0) ∙ lp.invariant.2,
     )
 
-add_result : tie.Need-overflow-add-result invariant_loop decreases_loop
+add_result : tie.Need-overflow_add-result invariant_loop decreases_loop
 add_result c = search rules
 
-same_length : tie.Need-same-length invariant_loop decreases_loop
+same_length : tie.Need-shape_of-out invariant_loop decreases_loop
 same_length c = search rules
 
 returns : tie.Need-returns invariant_loop decreases_loop
 returns c =
     let st = c.before.before in
-    let e : c.before.loop.j ≡ st.args.t1.count = omega arith in
+    let e : c.before.loop-j.j ≡ st.args.t1.count = omega arith in
     let l : length st.args.t1.bytes ≡ 128 = search rules in (
       ap (λ (k : ℕ). st.args.at + k) (sym (length-take-le st.args.t1.count st.args.t1.bytes (let h = st.requires.0 in omega arith))),
-      c.before.loop.invariant.0 ∙ ap (λ (k : ℕ). paste st.args.out.now st.args.at st.args.t1.bytes k) e
-          ∙ copied st.args.t1 st.args.at st.args.out.now l st.requires.0,
+      c.before.loop-j.invariant.0 ∙ ap (λ (k : ℕ). paste st.args.out-1.now st.args.at st.args.t1.bytes k) e
+          ∙ copied st.args.t1 st.args.at st.args.out-1.now l st.requires.0,
     )
 
 pub put_spec : {M : Type 1} → statement M

@@ -7,45 +7,45 @@ use borrow.Author.Rules.{rules}
 use Rattle.lines.proofs.Line.with.Statement.{statement}
 use Rattle.lines.proofs.Line.with.Tie as tie
 
-abbrev invariant_loop : tie.invariant_loop
+abbrev invariant_loop : tie.invariant-loop-j
 invariant_loop text self₀ from j₀ self j = Adding text self₀ self j × (from ≡ self₀.count)
 
-abbrev decreases_loop : tie.decreases_loop
+abbrev decreases_loop : tie.decreases-loop-j
 decreases_loop text self₀ from j₀ self j = length text - j
 
-loop_holds : tie.Need-loop-init invariant_loop decreases_loop
+loop_holds : tie.Need-loop-j-init invariant_loop decreases_loop
 loop_holds c =
     let e : length c.args.t1.bytes ≡ 128 = search rules in
     (starts c.args.text.now c.args.t1 e, refl)
 
-add_at : tie.Need-overflow-add-at invariant_loop decreases_loop
+add_at : tie.Need-overflow_add-at invariant_loop decreases_loop
 add_at c = search rules
 
-shared_slice_read_self : tie.Need-shared-slice-read-self invariant_loop decreases_loop
+shared_slice_read_self : tie.Need-bounds-text-j invariant_loop decreases_loop
 shared_slice_read_self c = search rules
 
-element_write_self : tie.Need-element-write-self invariant_loop decreases_loop
+element_write_self : tie.Need-bounds-self-at invariant_loop decreases_loop
 element_write_self c = search rules
 
-add_j : tie.Need-overflow-add-j invariant_loop decreases_loop
+add_j : tie.Need-overflow_add-j invariant_loop decreases_loop
 add_j c = search rules
 
-loop_less : tie.Need-loop-smaller invariant_loop decreases_loop
+loop_less : tie.Need-loop-j-smaller invariant_loop decreases_loop
 loop_less c = search rules
 
-loop_again : tie.Need-loop-preserved invariant_loop decreases_loop
+loop_again : tie.Need-loop-j-preserved invariant_loop decreases_loop
 loop_again c =
     let lp = c.before.before in
     let st = lp.before in
-    (turned st.args.text.now st.args.t1 lp.loop.self lp.loop.j lp.loop.invariant.0 st.requires c.before.loop-test.true, refl)
+    (turned st.args.text.now st.args.t1 lp.loop-j.self lp.loop-j.j lp.loop-j.invariant.0 st.requires c.before.loop-j-test.true, refl)
 
-add_self : tie.Need-overflow-add-self invariant_loop decreases_loop
+add_self : tie.Need-overflow_add-self invariant_loop decreases_loop
 add_self c = search rules
 
 returns : tie.Need-returns invariant_loop decreases_loop
 returns c =
     let st = c.before.before in
-    ended st.args.text.now st.args.t1 c.before.loop.self c.before.loop.j c.before.loop.invariant.0 c.loop-test.false
+    ended st.args.text.now st.args.t1 c.before.loop-j.self c.before.loop-j.j c.before.loop-j.invariant.0 c.loop-j-test.false
 
 pub with_spec : {M : Type 1} → statement M
 with_spec =

@@ -10,16 +10,16 @@ use borrow.Author.Rules.{rules}
 use Rattle.lines.proofs.Line.with_number.Statement.{statement}
 use Rattle.lines.proofs.Line.with_number.Tie as tie
 
-spell_requires : tie.Need-spell-requires
+spell_requires : tie.Need-spell-digits-requires
 spell_requires c κs = search rules
 
-sub_with : tie.Need-overflow-sub-with
+sub_with : tie.Need-slice_bounds-with-count
 sub_with c = search rules
 
-part_with_start : tie.Need-slice-bounds-with-start
+part_with_start : tie.Need-slice_bounds-with-start
 part_with_start c = search rules
 
-part_with_end : tie.Need-slice-bounds-with-end
+part_with_end : tie.Need-slice_bounds-with-end
 part_with_end c = omega arith
 
 with_requires : tie.Need-with-requires
@@ -27,10 +27,10 @@ with_requires c κs = simp (length-take, length-drop) (omega arith)
 
 returns : tie.Need-returns
 returns c =
-    let d = c.before.before.before.before.spell in
-    let e : length (drop d.result.at d.result.bytes) ≡ 20 - d.result.at = simp length-drop (omega arith) in
-    let w : take (20 - d.result.at) (drop d.result.at d.result.bytes) ≡ drop d.result.at d.result.bytes =
-    take_all (20 - d.result.at) (drop d.result.at d.result.bytes) (omega arith) in
+    let d = c.before.before.before.before.spell-digits in
+    let e : length (drop d.result.at d.result.bytes-1) ≡ 20 - d.result.at = simp length-drop (omega arith) in
+    let w : take (20 - d.result.at) (drop d.result.at d.result.bytes-1) ≡ drop d.result.at d.result.bytes-1 =
+    take_all (20 - d.result.at) (drop d.result.at d.result.bytes-1) (omega arith) in
     let l = subst (λ (x : List ℕ). Longer c.before.before.before.before.before.args.self x c.with.result) w c.with.ensures in
     (omega (arith, l.counted), subst (λ (x : List ℕ). Longer c.before.before.before.before.before.args.self x c.with.result) d.ensures.2 l)
 

@@ -15,25 +15,25 @@ with_requires c κs = search rules
 size_requires : tie.Need-size-requires
 size_requires c κs = search rules
 
-with_number_requires : tie.Need-with-number-requires
+with_number_requires : tie.Need-with_number-requires
 with_number_requires c κs = search rules
 
-returns : tie.Need-returns
+returns : tie.Need-returns-then-z-lt0
 returns c =
     let w = c.before.before.with.ensures in (
       omega (arith, w.counted),
-      longer_as (text_below _ _ c.before.before.before.before.before.ranges.z c.before.before.before.before.if1.true c.before.size.ensures) (then w c.with_number.ensures.1),
+      longer_as (text_below _ _ c.before.before.before.before.before.ranges.z c.before.before.before.before.if-z-lt0.true c.before.size.ensures) (then w c.with_number.ensures.1),
     )
 
 size_requires_2 : tie.Need-size-requires-2
 size_requires_2 c κs = search rules
 
-with_number_requires_2 : tie.Need-with-number-requires-2
+with_number_requires_2 : tie.Need-with_number-requires-2
 with_number_requires_2 c κs = search rules
 
-returns_2 : tie.Need-returns-2
+returns_2 : tie.Need-returns
 returns_2 c =
-    (omega arith, longer_as (text_above _ _ c.before.before.before.ranges.z c.before.before.if1.false c.before.size2.ensures) c.with-number2.ensures.1)
+    (omega arith, longer_as (text_above _ _ c.before.before.before.ranges.z c.before.before.if-z-lt0.false c.before.size-2.ensures) c.with_number-2.ensures.1)
 
 pub with_whole_spec : {M : Type 1} → statement M
 with_whole_spec =

@@ -5,54 +5,54 @@ use borrow.Author.Rules.{rules}
 use Rattle.records.proofs.Cursor.read.Statement.{statement}
 use Rattle.records.proofs.Cursor.read.Tie as tie
 
-returns : tie.Need-returns
-returns c = ends c.before.before.args.file.now c.before.before.args.self.at c.if1.true
+returns : tie.Need-returns-then-file-at
+returns c = ends c.before.before.args.file.now c.before.before.args.self.at c.if-file-at.true
 
-shared_slice_read_kind : tie.Need-shared-slice-read-kind
+shared_slice_read_kind : tie.Need-bounds-file-at
 shared_slice_read_kind c = search rules
 
-add_from : tie.Need-overflow-add-from
+add_from : tie.Need-overflow_add-from
 add_from c = search rules
 
-body_length_requires : tie.Need-body-length-requires
+body_length_requires : tie.Need-body_length-wanted-requires
 body_length_requires c κs = search rules
 
-enum_told : tie.Need-enum-told
+enum_told : tie.Need-enum_told-1
 enum_told c = search rules
 
-enum_known_wanted : tie.Need-enum-known-wanted
+enum_known_wanted : tie.Need-enum_known-wanted
 enum_known_wanted c = search rules
 
-sub_if2 : tie.Need-overflow-sub-if2
+sub_if2 : tie.Need-overflow_sub-file
 sub_if2 c = search rules
 
-returns_2 : tie.Need-returns-2
+returns_2 : tie.Need-returns-then-file-from
 returns_2 c =
-    cut_off c.before.before.before.before.before.before.before.before.args.file.now c.before.before.before.before.before.before.before.before.args.self.at _ c.before.before.before.before.before.before.if1.false (sym c.before.before.before.before.body_length.ensures ∙ c.before.before.wanted.given.1) c.if2.true
+    cut_off c.before.before.before.before.before.before.before.before.args.file.now c.before.before.before.before.before.before.before.before.args.self.at _ c.before.before.before.before.before.before.if-file-at.false (sym c.before.before.before.before.body_length-wanted.ensures ∙ c.before.before.in-Bytes.n.1) c.if-file-from.true
 
-add_end : tie.Need-overflow-add-end
+add_end : tie.Need-overflow_add-end
 add_end c = search rules
 
-sub_parse : tie.Need-overflow-sub-parse
+sub_parse : tie.Need-slice_bounds-parse-count
 sub_parse c = search rules
 
-part_parse_start : tie.Need-slice-bounds-parse-start
+part_parse_start : tie.Need-slice_bounds-parse-start
 part_parse_start c = search rules
 
-part_parse_end : tie.Need-slice-bounds-parse-end
+part_parse_end : tie.Need-slice_bounds-parse-end
 part_parse_end c = search rules
 
-parse_requires : tie.Need-parse-requires
+parse_requires : tie.Need-parse-record-requires
 parse_requires c κs =
-    body_fits c.before.before.before.before.before.before.before.before.before.args.file.now c.before.before.before.before.before.before.before.before.before.args.self.at _ c.before.before.before.before.before.before.before.if1.false (sym c.before.before.before.before.before.body_length.ensures ∙ c.before.before.before.wanted.given.1) c.before.if2.false
+    body_fits c.before.before.before.before.before.before.before.before.before.args.file.now c.before.before.before.before.before.before.before.before.before.args.self.at _ c.before.before.before.before.before.before.before.if-file-at.false (sym c.before.before.before.before.before.body_length-wanted.ensures ∙ c.before.before.before.in-Bytes.n.1) c.before.if-file-from.false
 
-returns_3 : tie.Need-returns-3
+returns_3 : tie.Need-returns-in-Unknown
 returns_3 c =
-    unknown_kind c.before.before.before.before.before.before.args.file.now c.before.before.before.before.before.before.args.self.at c.before.before.before.before.if1.false (sym c.before.before.body_length.ensures ∙ c.enum_told.given.1)
+    unknown_kind c.before.before.before.before.before.before.args.file.now c.before.before.before.before.before.before.args.self.at c.before.before.before.before.if-file-at.false (sym c.before.before.body_length-wanted.ensures ∙ c.in-Unknown.is.1)
 
-returns_4 : tie.Need-returns-4
+returns_4 : tie.Need-returns-else-file-from
 returns_4 c =
-    whole_record c.before.before.before.before.before.before.before.before.before.before.args.file.now c.before.before.before.before.before.before.before.before.before.before.args.self.at _ _ c.before.before.before.before.before.before.before.before.if1.false (sym c.before.before.before.before.before.before.body_length.ensures ∙ c.before.before.before.before.wanted.given.1) c.before.before.if2.false c.parse.ensures
+    whole_record c.before.before.before.before.before.before.before.before.before.before.args.file.now c.before.before.before.before.before.before.before.before.before.before.args.self.at _ _ c.before.before.before.before.before.before.before.before.if-file-at.false (sym c.before.before.before.before.before.before.body_length-wanted.ensures ∙ c.before.before.before.before.in-Bytes.n.1) c.before.before.if-file-from.false c.parse-record.ensures
 
 pub read_spec : {M : Type 1} → statement M
 read_spec =

@@ -11,13 +11,13 @@ use Rattle.ring_corners.proofs.corners.x_at.Tie as tie
 long : (c : tie.Start) → 2 * c.args.i + 1 < length c.args.corners.now
 long c = let n = count_of c.args.corners.now in let h = c.requires in omega arith
 
-mul_result : tie.Need-overflow-mul-result
+mul_result : tie.Need-overflow_mul-result
 mul_result c = let h = long c in omega arith
 
-mul_result_2 : tie.Need-overflow-mul-result-2
+mul_result_2 : tie.Need-offset_bounds-corners-i
 mul_result_2 c = let h = long c in omega arith
 
-shared_slice_copy_out_result : tie.Need-shared-slice-copy-out-result
+shared_slice_copy_out_result : tie.Need-bounds-corners-i
 shared_slice_copy_out_result c = let h = long c in omega arith
 
 returns : tie.Need-returns

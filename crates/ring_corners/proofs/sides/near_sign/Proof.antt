@@ -11,13 +11,13 @@ use Rattle.ring_corners.proofs.sides.near_sign.Tie as tie
 side_requires : tie.Need-side-requires
 side_requires c κs = rw (to_z-of_z c.ranges.ax, to_z-of_z c.ranges.ay, to_z-of_z c.ranges.bx, to_z-of_z c.ranges.by, to_z-of_z c.ranges.px, to_z-of_z c.ranges.py) (near_wide c.requires.0, near_wide c.requires.1)
 
-sign_of_requires : tie.Need-sign-of-requires
+sign_of_requires : tie.Need-sign_of-requires
 sign_of_requires c κs = search rules
 
 returns : tie.Need-returns
 returns c =
     let st = c.before.before in
-    c.sign_of.ensures ∙ ap sign_of (held (record { sfits = c.before.side.type-inv }) (rw (to_z-of_z st.ranges.ax, to_z-of_z st.ranges.ay, to_z-of_z st.ranges.bx, to_z-of_z st.ranges.by, to_z-of_z st.ranges.px, to_z-of_z st.ranges.py) at c.before.side.ensures))
+    c.sign_of.ensures ∙ ap sign_of (held (record { sfits = c.before.side.type_inv }) (rw (to_z-of_z st.ranges.ax, to_z-of_z st.ranges.ay, to_z-of_z st.ranges.bx, to_z-of_z st.ranges.by, to_z-of_z st.ranges.px, to_z-of_z st.ranges.py) at c.before.side.ensures))
 
 pub near_sign_spec : {M : Type 1} → statement M
 near_sign_spec = tie.close (tie.spec side_requires sign_of_requires returns)
