@@ -165,11 +165,11 @@ def sinking(rows, ticks):
 
 
 def latitude60(n):
-    return rising(BANDS["latitude-sine"], n - 48 * DEGREE), sinking(BANDS["latitude-cosine"], n - 48 * DEGREE)
+    return rising(BANDS["latitude_sine"], n - 48 * DEGREE), sinking(BANDS["latitude_cosine"], n - 48 * DEGREE)
 
 
 def longitude60(d):
-    return rising(BANDS["longitude-sine"], d), sinking(BANDS["longitude-cosine"], d)
+    return rising(BANDS["longitude_sine"], d), sinking(BANDS["longitude_cosine"], d)
 
 
 # ---- crate fixed_forward
