@@ -69,12 +69,12 @@ def shortfall_series(e):
 # Series, signs, first degree, number of bands: 32 everywhere, though a difference of longitude only comes to the first 22, because the code finds a row by
 # five bits.
 KINDS = {
-    "latitude-sine": (sine_series, RISING, 48, 32),
-    "latitude-cosine": (cosine_series, SINKING, 48, 32),
-    "longitude-sine": (sine_series, RISING, 0, 32),
-    "longitude-cosine": (cosine_series, SINKING, 0, 32),
-    "shortfall-grs80": (shortfall_series(GRS80), RISING, 48, 32),
-    "shortfall-krasovsky": (shortfall_series(KRASOVSKY), RISING, 48, 32),
+    "latitude_sine": (sine_series, RISING, 48, 32),
+    "latitude_cosine": (cosine_series, SINKING, 48, 32),
+    "longitude_sine": (sine_series, RISING, 0, 32),
+    "longitude_cosine": (cosine_series, SINKING, 0, 32),
+    "shortfall_grs80": (shortfall_series(GRS80), RISING, 48, 32),
+    "shortfall_krasovsky": (shortfall_series(KRASOVSKY), RISING, 48, 32),
 }
 
 
@@ -93,12 +93,12 @@ def tables():
 
 def rust(name, rows):
     body = "".join(f"    {number},\n" for numbers in rows for number in numbers)
-    return f"const {name.upper().replace('-', '_')}: [u64; {len(rows) * TERMS}] = [\n{body}];\n"
+    return f"const {name.upper()}: [u64; {len(rows) * TERMS}] = [\n{body}];\n"
 
 
 def antt(name, rows):
     lines = [" ∷ ".join(map(str, numbers)) for numbers in rows]
-    return f"abbrev pub {name}-table : List ℕ\n{name}-table =\n    " + "\n    ∷ ".join(lines) + "\n    ∷ []\n"
+    return f"abbrev pub {name}_table : List ℕ\n{name}_table =\n    " + "\n    ∷ ".join(lines) + "\n    ∷ []\n"
 
 
 def errors(name, rows):

@@ -23,13 +23,13 @@ MADE = "Made by reference/tried.py. Assumes nothing."
 
 def whole(number):
     """A whole number as the rules write it."""
-    return "pos %d" % number if number >= 0 else "(negℤ (pos %d))" % -number
+    return "pos %d" % number if number >= 0 else "(neg_ℤ (pos %d))" % -number
 
 
 def scaled(number):
     """A number over 10^24, with `_` where its point stands."""
     size = "%d_%024d" % divmod(abs(number), UNIT)
-    return "pos " + size if number >= 0 else "negℤ (pos %s)" % size
+    return "pos " + size if number >= 0 else "neg_ℤ (pos %s)" % size
 
 
 def given(text):
@@ -42,7 +42,7 @@ def angle(ticks):
     minutes, rest = divmod(rest, MINUTE)
     seconds, rest = divmod(rest, SECOND)
     assert rest == 0
-    return "(pos (%d ° %d ′ %d ″))" % (degrees, minutes, seconds)
+    return "(pos (%d ° %d ' %d ''))" % (degrees, minutes, seconds)
 
 
 # ---- series
@@ -56,19 +56,17 @@ def series():
         ("sine", definition.sine(x)),
         ("cosine", definition.cosine(x)),
         ("exponential", definition.summed(x, definition.EXPONENTIAL)),
-        ("hyperbolic-sine", definition.product(x, definition.summed(square, definition.HYPERBOLIC_SINE))),
-        ("hyperbolic-cosine", definition.summed(square, definition.HYPERBOLIC_COSINE)),
+        ("hyperbolic_sine", definition.product(x, definition.summed(square, definition.HYPERBOLIC_SINE))),
+        ("hyperbolic_cosine", definition.summed(square, definition.HYPERBOLIC_COSINE)),
         ("arctan", definition.arctan(x)),
         ("artanh", definition.artanh(x)),
     ]
-    return [(name + "-3", name + " (pos (3 * unit))", value) for name, value in values]
+    return [(name + "_3", name + " (pos (3 * unit))", value) for name, value in values]
 
 
 SERIES_HEAD = """-- 01, "Power series are cut": each series at 3, where its last term shows, with all digits. %s
-use mathlib.Core.Path.{_≡_}
-use Prim.Native.Nat.{_*_}
-use lib.IntN.{ℤ, pos, negℤ}
-use Rattle·rules·specs.specs.Scaled.{unit, sine, cosine, exponential, hyperbolic-sine, hyperbolic-cosine, arctan, artanh}
+use Rattle.std.specs.Prelude.{◌≡◌, ◌*◌, ℤ, pos, neg_ℤ}
+use Rattle.rules.specs.Scaled.{unit, sine, cosine, exponential, hyperbolic_sine, hyperbolic_cosine, arctan, artanh}
 
 pub record Series : Type 0 where
 """ % MADE
@@ -99,8 +97,8 @@ def forward_statement(system, B, L):
     value = definition.forward(system, B, L)
     X, Y = plane_point(system, B, L)
     answer = (X, Y, definition.nearest(value[2]), definition.nearest(value[3]))
-    return "Forward-at %d (%s) (%s)\n      (%s)\n      (%s)" % (
-        system.code, whole(B), whole(L), "forward-value " + " ".join(given(scaled(part)) for part in value),
+    return "ForwardAt %d (%s) (%s)\n      (%s)\n      (%s)" % (
+        system.code, whole(B), whole(L), "forward_value " + " ".join(given(scaled(part)) for part in value),
         "point " + " ".join(given(whole(part)) for part in answer))
 
 
@@ -108,8 +106,8 @@ def inverse_statement(system, B, L):
     X, Y = plane_point(system, B, L)
     value = definition.inverse(system, X, Y)
     answer = (definition.nearest(value[0]), system.L0 + definition.nearest(value[1]))
-    return "Inverse-at %d %s %s\n      (%s)\n      (%s)" % (
-        system.code, given(whole(X)), given(whole(Y)), "inverse-value " + " ".join(given(scaled(part)) for part in value),
+    return "InverseAt %d %s %s\n      (%s)\n      (%s)" % (
+        system.code, given(whole(X)), given(whole(Y)), "inverse_value " + " ".join(given(scaled(part)) for part in value),
         "ticks " + " ".join(given(whole(part)) for part in answer))
 
 
@@ -118,24 +116,22 @@ def points():
     for make, name in ((forward_statement, "forward"), (inverse_statement, "inverse")):
         for system in SYSTEMS.values():
             for side, (B, L) in zip(("east", "west"), forward_points(system, choice)):
-                yield "%s-%d-%s" % (name, system.code, side), make(system, B, L)
+                yield "%s_%d_%s" % (name, system.code, side), make(system, B, L)
 
 
 POINTS_HEAD = """-- 01, "Projected numbers are compared with an independent, more precise program": two points of each code, forward and inverse, unrounded with all digits and
 -- rounded. %s
-use mathlib.Core.Path.{_≡_}
-use Prim.Native.Nat.{ℕ}
-use lib.IntN.{ℤ, pos, negℤ}
-use Rattle·rules·specs.specs.Refusals.{Answer, answered, _>>=_}
-use Rattle·rules·specs.specs.Systems.{system}
-use Rattle·rules·specs.specs.Projection as Unrounded
-use Rattle·rules·specs.specs.Points as P
+use Rattle.std.specs.Prelude.{◌≡◌, ℕ, ℤ, pos, neg_ℤ}
+use Rattle.rules.specs.Refusals.{Answer, answered, ◌>>=◌}
+use Rattle.rules.specs.Systems.{system}
+use Rattle.rules.specs.Projection as Unrounded
+use Rattle.rules.specs.Points as P
 
-abbrev pub forward-value : ℤ → ℤ → ℤ → ℤ → Unrounded.Forward
-forward-value north east scale convergence = record { north = north; east = east; scale = scale; convergence = convergence }
+abbrev pub forward_value : ℤ → ℤ → ℤ → ℤ → Unrounded.Forward
+forward_value north east scale convergence = record { north = north; east = east; scale = scale; convergence = convergence }
 
-abbrev pub inverse-value : ℤ → ℤ → Unrounded.Inverse
-inverse-value B d = record { B = B; d = d }
+abbrev pub inverse_value : ℤ → ℤ → Unrounded.Inverse
+inverse_value B d = record { B = B; d = d }
 
 abbrev pub point : ℤ → ℤ → ℤ → ℤ → P.Point
 point X Y scale convergence = record { X = X; Y = Y; scale = scale; convergence = convergence }
@@ -143,11 +139,11 @@ point X Y scale convergence = record { X = X; Y = Y; scale = scale; convergence 
 abbrev pub ticks : ℤ → ℤ → P.Ticks
 ticks B L = record { B = B; L = L }
 
-pub record Forward-at (code : ℕ) (B L : ℤ) (value : Unrounded.Forward) (answer : P.Point) : Type 0 where
+pub record ForwardAt (code : ℕ) (B L : ℤ) (value : Unrounded.Forward) (answer : P.Point) : Type 0 where
   pub unrounded : (system code >>= λ s. answered (Unrounded.forward s B L)) ≡ answered value
   pub rounded : P.forward code B L ≡ answered answer
 
-pub record Inverse-at (code : ℕ) (X Y : ℤ) (value : Unrounded.Inverse) (answer : P.Ticks) : Type 0 where
+pub record InverseAt (code : ℕ) (X Y : ℤ) (value : Unrounded.Inverse) (answer : P.Ticks) : Type 0 where
   pub unrounded : (system code >>= λ s. answered (Unrounded.inverse s X Y)) ≡ answered value
   pub rounded : P.inverse code X Y ≡ answered answer
 
@@ -164,7 +160,7 @@ def point_statements():
 
 def half_width_rows():
     for system in SYSTEMS.values():
-        yield "half-width-%d" % system.code, "Ends %d %s %s" % (system.code, angle(system.L0 - system.half_width), angle(system.L0 + system.half_width))
+        yield "half_width_%d" % system.code, "Ends %d %s %s" % (system.code, angle(system.L0 - system.half_width), angle(system.L0 + system.half_width))
 
 
 def side(offset, m0, metres):
@@ -177,38 +173,36 @@ def side(offset, m0, metres):
 def box_rows():
     for system in SYSTEMS.values():
         sides = [side(system.x0, system.m0, 5_300_000), side(system.x0, system.m0, 6_250_000), side(system.y0, system.m0, -420_000), side(system.y0, system.m0, 420_000)]
-        yield "box-%d" % system.code, "Box %d %s" % (system.code, " ".join(sides))
+        yield "box_%d" % system.code, "Box %d %s" % (system.code, " ".join(sides))
 
 
 LIMITS_HEAD = """-- 01, "Refusal numbers and their order": the two ends of each code's half-width (3), and the four sides of its box (4), taken, and refused one tick or one millimetre
 -- beyond. %s
-use mathlib.Core.Path.{_≡_}
-use Prim.Native.Nat.{ℕ}
-use lib.IntN.{ℤ, pos, negℤ, _+ℤ_, _-ℤ_}
-use Rattle·rules·specs.specs.Units.{_°_′_″}
-use Rattle·rules·specs.specs.Refusals.{Answer, answered, refused, longitude-outside, plane-outside}
-use Rattle·rules·specs.specs.Points as P
-use Rattle·rules·specs.specs.Tried.Kinds.{taken}
+use Rattle.std.specs.Prelude.{◌≡◌, ℕ, ℤ, pos, neg_ℤ, ◌+ℤ◌, ◌-ℤ◌}
+use Rattle.rules.specs.Units.{◌°◌'◌''}
+use Rattle.rules.specs.Refusals.{Answer, answered, refused, longitude_outside, plane_outside}
+use Rattle.rules.specs.Points as P
+use Rattle.rules.specs.Tried.Kinds.{taken}
 
 -- any latitude
 abbrev B : ℤ
-B = pos (52 ° 0 ′ 0 ″)
+B = pos (52 ° 0 ' 0 '')
 
 -- "size of L - L0 above the half-width, exact"
 pub record Ends (code : ℕ) (west east : ℤ) : Type 0 where
-  pub west-taken : taken (P.forward code B west) ≡ answered 0
-  pub east-taken : taken (P.forward code B east) ≡ answered 0
-  pub west-beyond : P.forward code B (west -ℤ pos 1) ≡ refused longitude-outside
-  pub east-beyond : P.forward code B (east +ℤ pos 1) ≡ refused longitude-outside
+  pub west_taken : taken (P.forward code B west) ≡ answered 0
+  pub east_taken : taken (P.forward code B east) ≡ answered 0
+  pub west_beyond : P.forward code B (west -ℤ pos 1) ≡ refused longitude_outside
+  pub east_beyond : P.forward code B (east +ℤ pos 1) ≡ refused longitude_outside
 
 -- "outside 5,300,000 to 6,250,000 m or size of Y above 420,000 m, exact after offset and m0": two opposite corners pass, and nothing beyond a side
 pub record Box (code : ℕ) (south north west east : ℤ) : Type 0 where
-  pub south-west-taken : taken (P.inverse-checks code south west) ≡ answered 0
-  pub north-east-taken : taken (P.inverse-checks code north east) ≡ answered 0
-  pub south-beyond : P.inverse code (south -ℤ pos 1) west ≡ refused plane-outside
-  pub north-beyond : P.inverse code (north +ℤ pos 1) east ≡ refused plane-outside
-  pub west-beyond : P.inverse code south (west -ℤ pos 1) ≡ refused plane-outside
-  pub east-beyond : P.inverse code north (east +ℤ pos 1) ≡ refused plane-outside
+  pub south_west_taken : taken (P.inverse_checks code south west) ≡ answered 0
+  pub north_east_taken : taken (P.inverse_checks code north east) ≡ answered 0
+  pub south_beyond : P.inverse code (south -ℤ pos 1) west ≡ refused plane_outside
+  pub north_beyond : P.inverse code (north +ℤ pos 1) east ≡ refused plane_outside
+  pub west_beyond : P.inverse code south (west -ℤ pos 1) ≡ refused plane_outside
+  pub east_beyond : P.inverse code north (east +ℤ pos 1) ≡ refused plane_outside
 
 """ % MADE
 
@@ -216,7 +210,7 @@ pub record Box (code : ℕ) (south north west east : ℤ) : Type 0 where
 def limit_statements():
     ends = "".join("  pub %s : %s\n" % row for row in half_width_rows())
     boxes = "".join("  pub %s : %s\n" % row for row in box_rows())
-    return LIMITS_HEAD + "pub record Half-widths : Type 0 where\n" + ends + "\npub record Boxes : Type 0 where\n" + boxes
+    return LIMITS_HEAD + "pub record HalfWidths : Type 0 where\n" + ends + "\npub record Boxes : Type 0 where\n" + boxes
 
 
 # ---- the proofs
@@ -232,9 +226,9 @@ def record(*fields):
 
 
 PROOFS_HEAD = """-- The statements of Tried.%s hold, each by computing. %s
-use mathlib.Core.Path.{refl}
-use Rattle·rules·specs.specs.Tried.%s.{%s}
-use Rattle·rules·specs.specs.Computing.{computing}
+use Rattle.std.specs.Prelude.{refl}
+use Rattle.rules.specs.Tried.%s.{%s}
+use Rattle.rules.specs.Computing.{computing}
 """
 
 
@@ -245,15 +239,15 @@ def proofs(module, *parts):
 def main(crate):
     specs = Path(crate) / "specs"
     both = record("unrounded", "rounded")
-    ends = record("west-taken", "east-taken", "west-beyond", "east-beyond")
-    box = record("south-west-taken", "north-east-taken", "south-beyond", "north-beyond", "west-beyond", "east-beyond")
+    ends = record("west_taken", "east_taken", "west_beyond", "east_beyond")
+    box = record("south_west_taken", "north_east_taken", "south_beyond", "north_beyond", "west_beyond", "east_beyond")
     texts = {
         "Tried/Series": series_statements(),
         "Tried/Points": point_statements(),
         "Tried/Limits": limit_statements(),
         "Laws/Tried/Series": proofs("Series", ("series", "Series", series(), "refl")),
         "Laws/Tried/Points": proofs("Points", ("points", "Projected", list(points()), both)),
-        "Laws/Tried/Limits": proofs("Limits", ("half-widths", "Half-widths", list(half_width_rows()), ends), ("boxes", "Boxes", list(box_rows()), box)),
+        "Laws/Tried/Limits": proofs("Limits", ("half_widths", "HalfWidths", list(half_width_rows()), ends), ("boxes", "Boxes", list(box_rows()), box)),
     }
     for name, text in texts.items():
         (specs / (name + ".antt")).write_text(text)

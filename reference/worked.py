@@ -73,7 +73,7 @@ class Constants:
 
     def __init__(self, ellipsoid):
         e, a, R0 = Fraction(ellipsoid.e), Fraction(ellipsoid.a), Fraction(ellipsoid.R0)
-        self.shortfall = BANDS["shortfall-" + ("krasovsky" if ellipsoid is KRASOVSKY else "grs80")]
+        self.shortfall = BANDS["shortfall_" + ("krasovsky" if ellipsoid is KRASOVSKY else "grs80")]
         self.square, self.ratio = whole(e * e), whole(R0 / a)
         self.radius, self.centre = whole(R0, METRE), whole(R0 * AT_52 - 5760000, METRE)
         self.over_radius = whole(1 / R0, 2**82)
@@ -165,11 +165,11 @@ def sinking(rows, ticks):
 
 
 def latitude60(n):
-    return rising(BANDS["latitude-sine"], n - 48 * DEGREE), sinking(BANDS["latitude-cosine"], n - 48 * DEGREE)
+    return rising(BANDS["latitude_sine"], n - 48 * DEGREE), sinking(BANDS["latitude_cosine"], n - 48 * DEGREE)
 
 
 def longitude60(d):
-    return rising(BANDS["longitude-sine"], d), sinking(BANDS["longitude-cosine"], d)
+    return rising(BANDS["longitude_sine"], d), sinking(BANDS["longitude_cosine"], d)
 
 
 # ---- crate fixed_forward

@@ -163,10 +163,12 @@ also a b = cond a b false
 pub first_of : (a b : Bool) → T (also a b) → T a
 unfolding also
 first_of true b t = tt
+first_of false b t = elim t [ ]
 
 pub second_of : (a b : Bool) → T (also a b) → T b
 unfolding also
 second_of true b t = t
+second_of false b t = elim t [ ]
 
 unfoldable pub rise_test : (c0 c1 c2 c3 c4 c5 : ℕ) → Model → (e lo hi : ℕ) → Bool
 rise_test c0 c1 c2 c3 c4 c5 m e lo hi =

@@ -1,4 +1,6 @@
 // Functions of an angle by bands of a quarter of a degree: in each, a polynomial in the ticks from its start. Each function answers the worked number of specs/.
+#![tactic(auto)]
+
 ghost use Rattle.std.specs.Prelude.{◌≡◌, ℕ, ◌+◌, ◌*◌, ◌-◌, ◌/◌, ◌%◌, ◌≤◌, ◌<◌};
 ghost use Rattle.rules.specs.Systems.{GRS_80, Krasovsky};
 ghost use Rattle.fixed.specs.Worked.{S60, P30};

@@ -1,4 +1,6 @@
 // The forward steps up to Mercator's pair, in fixed point at scale 2^60. Each function answers the worked number of specs/, and says how large it is.
+#![tactic(auto)]
+
 ghost use Rattle.std.specs.Prelude.{◌≡◌, ℕ, ◌+◌, ◌*◌, ◌/◌, ◌≤◌, ℤ, pos, ◌+ℤ◌};
 ghost use Rattle.fixed.specs.Worked.{S60, mul60, tilt60, tilt_south};
 ghost use Rattle.fixed.specs.Nearness.{turned};

@@ -1,5 +1,7 @@
 // Scale and convergence in fixed point at scale 2^60, but for the polynomial's derivative, whose first part and slope the caller hands in. Each function
 // answers the worked number of specs/.
+#![tactic(auto)]
+
 ghost use Rattle.std.specs.Prelude.{◌≡◌, Bool, ℕ, ◌+◌, ◌*◌, ◌-◌, ◌/◌, ◌≤◌, ℤ, pos, ◌-ℤ◌};
 ghost use Rattle.fixed.specs.Worked.{S60, mul60};
 ghost use Rattle.fixed.specs.Nearness.{turned};

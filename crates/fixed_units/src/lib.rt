@@ -1,5 +1,7 @@
 // The last step of scale and convergence: from numbers at scale 2^60 to whole units of the answers, 10^-9 and thousandths of an arc second, to the nearest and
 // ties to even. Each function answers the worked number of specs/Worked.antt.
+#![tactic(auto)]
+
 ghost use Rattle.std.specs.Prelude.{◌≡◌, ℕ, ◌*◌, ◌/◌, ◌^◌, ◌≤◌, ℤ, nat_abs};
 ghost use Rattle.rules.specs.Units.{units_in_scale};
 ghost use Rattle.fixed.specs.Worked.{S60};

@@ -1,4 +1,6 @@
 // The projection: latitude and longitude to plane, and back.
+#![tactic(auto)]
+
 ghost use Rattle.std.specs.Prelude.{◌≡◌};
 ghost use Rattle.systems.specs.Zones.{Found};
 ghost use Rattle.systems.specs.declared.ZoneAnswer.TheVariants.{Known};

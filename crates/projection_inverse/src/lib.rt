@@ -1,4 +1,6 @@
 // Plane to latitude and longitude, in a system that has a row.
+#![tactic(auto)]
+
 pub mod backward;
 
 // B and L, or the refusal's number.

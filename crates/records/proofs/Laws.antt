@@ -125,7 +125,7 @@ module _ (k : ℕ) (b : List ℕ) (body : BodyOf k b) where
 
 -- ---- the record that a body is, as the code has its numbers
 pub back : {z y : ℤ} → mag z < 2 ^ 63 → z ≡ y → to_z w64 (of_z w64 z) ≡ y
-back h e = to_z-of_z (record { sfits = h }) ∙ e
+back h e = to_z-of_z {w = w64} (record { sfits = h }) ∙ e
 
 module _ {k : ℕ} (b : List ℕ) where
   pub begins : k ≡ 1 → 0 < length b → case.Begin (get_or b 0 0) ≡ body_of k b

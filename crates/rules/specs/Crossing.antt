@@ -1,4 +1,4 @@
--- The crossing test, by computing: `crossed r` is the first crossed pair of Rings, or none where there is none (Laws.Pairs: crossed-some, crossed-none).
+-- The crossing test, by computing: `crossed r` is the first crossed pair of Rings, or none where there is none (Laws.Pairs: crossed_some, crossed_none).
 -- Not the paper's words: its words are Share, ShareOff, Crossing and First of Rings. Assumes nothing.
 use Rattle.std.specs.Prelude.{Bool, true, false, not, cond, ◌&&◌, ◌||◌, List, [], ◌∷◌, ℕ, suc, ℤ, pos, ◌+ℤ◌, ◌-ℤ◌, ◌*ℤ◌, eqb, length}
 use Rattle.std.proofs.Math.Option.{Option, none, some}

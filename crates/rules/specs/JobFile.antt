@@ -28,7 +28,7 @@ unfoldable pub whole : ℤ → List ℕ
 whole (pos n) = decimal n
 whole (negsuc n) = text "-" ++ decimal (suc n)
 
--- ---- "other numbers 8 bytes, signed, little_endian"
+-- ---- "other numbers 8 bytes, signed, little-endian"
 unfoldable pub little_endian : List ℕ → ℕ
 little_endian [] = 0
 little_endian (b ∷ bs) = b + 256 * little_endian bs

@@ -1,6 +1,6 @@
--- The test of where an inner ring lies, by computing: `misplaced f s` is true exactly where s is Misplaced in Fields (Laws.Placing: misplaced-yes, misplaced-no). It costs pairs
--- of edges and one corner of a ring: where no edges meet, one corner of a ring tells of all of them. Not the paper's words: these are Meeting, Strictly-inside,
--- Lies-inside and Misplaced of Fields. Assumes nothing.
+-- The test of where an inner ring lies, by computing: `misplaced f s` is true exactly where s is Misplaced in Fields (Laws.Placing: misplaced_yes, misplaced_no). It costs pairs
+-- of edges and one corner of a ring: where no edges meet, one corner of a ring tells of all of them. Not the paper's words: these are Meeting, StrictlyInside,
+-- LiesInside and Misplaced of Fields. Assumes nothing.
 use Rattle.std.specs.Prelude.{◌≡◌, Bool, true, false, not, ◌||◌, T}
 use mathlib.Core.List.{List, [], ◌∷◌, Memᴰ}
 use Rattle.rules.specs.Rings.{Corner, Edge, edges, turning_number, border, is_zero}
@@ -40,7 +40,7 @@ unfoldable pub misplaced : Field → List Corner → Bool
 misplaced f s = (rings_meet f.outer_ring s || first_outside f.outer_ring s) || entangled_any f.inner_rings s
 
 -- ---- why one corner of s tells of all of s: of two rings whose edges do not meet, all whole points of the edges of s, the corners with them, have one turning number in r, and none
--- lies on an edge of r (Laws.Placing: one-corner-decides, by demand 3's line law along the edges of s)
+-- lies on an edge of r (Laws.Placing: one_corner_decides, by demand 3's line law along the edges of s)
 pub record OneCornerDecides (r s : List Corner) : Type 0 where
   pub alike : (p q : Corner) → T (border (edges s) p) → T (border (edges s) q) → turning_number r p ≡ turning_number r q
   pub off : (p : Corner) → T (border (edges s) p) → border (edges r) p ≡ false

@@ -15,7 +15,7 @@ use Rattle.arith.specs.Machine.{Is}
 inside : {x z : ℤ} {n : ℕ} → Is x z n → Within z n
 inside h = record { within = h.size }
 
--- a parameter, `v-arg c.fits.x (c.pre ..)`
+-- a parameter, `v_arg c.ranges.x (c.requires ..)`
 pub v_arg : {w : Width} {z : ℤ} {n : ℕ} → SFits w z → nat_abs z ≤ n → Is (to_z w (of_z w z)) z n
 v_arg f h = record { is = to_z-of_z f; size = h }
 
@@ -66,7 +66,7 @@ v_sub w h k l = record { is = to_z-of_z (need_sub h k l) ∙ ap₂ ◌-ℤ◌ h.
 pub v_mul : {x y z t : ℤ} {m n : ℕ} (w : Width) → Is x z m → Is y t n → T (ltb (m * n) (2 ^ hbits w)) → Is (to_z w (of_z w (x *ℤ y))) (z *ℤ t) (m * n)
 v_mul w h k l = record { is = to_z-of_z (need_mul h k l) ∙ ap₂ ◌*ℤ◌ h.is k.is; size = (w_mul (inside h) (inside k)).within }
 
--- ---- a test of the code, as a branch leaves it: `lt_no (v_arg ..) (v_num ..) c.if1.left`
+-- ---- a test of the code, as a branch leaves it: `lt_no (v_arg ..) (v_num ..) c.if-x-y.false`
 pub v_fit : {w : Width} {z : ℤ} → SFits w z → Is (to_z w (of_z w z)) z (nat_abs z)
 v_fit {w} {z} f = v_arg f (le_refl (nat_abs z))
 

@@ -11,23 +11,23 @@ use Rattle.fixed_bands.specs.Bands.{shortfall_asks, shortfall_below}
 use Rattle.fixed_bands.proofs.k60_krasovsky.Statement.{statement}
 use Rattle.fixed_bands.proofs.k60_krasovsky.Tie as tie
 
-sub_m : tie.Need-overflow-sub-m
+sub_m : tie.Need-overflow_sub-m
 sub_m c = search rules
 
-row_requires : tie.Need-row-requires
+row_requires : tie.Need-row-row-requires
 row_requires c κs = search rules
 
 rise60_requires : tie.Need-rise60-requires
-rise60_requires c κs = (shortfall_asks Krasovsky ((c.before.args.n - 172800000000) / 900000001) (omega arith) c.row.result c.row.ensures, omega arith)
+rise60_requires c κs = (shortfall_asks Krasovsky ((c.before.args.n - 172800000000) / 900000001) (omega arith) c.row-row.result c.row-row.ensures, omega arith)
 
 module _ (c : tie.After-rise60) where
   abbrev n : ℕ
   n = c.before.before.args.n
 
   is : c.rise60.result ≡ rising (shortfall_table Krasovsky) (n - 172800000000)
-  is = c.rise60.ensures ∙ row_rising (shortfall_table Krasovsky) (n - 172800000000) c.before.row.result c.before.row.ensures
+  is = c.rise60.ensures ∙ row_rising (shortfall_table Krasovsky) (n - 172800000000) c.before.row-row.result c.before.row-row.ensures
 
-sub_result : tie.Need-overflow-sub-result
+sub_result : tie.Need-overflow_sub-result
 sub_result c = omega (arith, is c, shortfall_below Krasovsky (n c) (record { low = c.before.before.requires.0; high = c.before.before.requires.1 }))
 
 returns : tie.Need-returns

@@ -23,13 +23,13 @@ lower s h l = mul-le-mul (rest s) l
     rest : (s : ℕ) → s % P30 ≤ P30
     rest s = omega arith
 
-mul_result : tie.Need-overflow-mul-result
+mul_result : tie.Need-overflow_mul-result
 mul_result c = omega (arith, upper c.args.s c.args.h c.requires.0 c.requires.1)
 
-mul_result_2 : tie.Need-overflow-mul-result-2
+mul_result_2 : tie.Need-overflow_mul-result-2
 mul_result_2 c = omega (arith, lower c.args.s c.args.h c.requires.1)
 
-add_result : tie.Need-overflow-add-result
+add_result : tie.Need-overflow_add-result
 add_result c = omega (arith, upper c.args.s c.args.h c.requires.0 c.requires.1, lower c.args.s c.args.h c.requires.1)
 
 returns : tie.Need-returns

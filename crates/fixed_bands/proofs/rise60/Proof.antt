@@ -7,31 +7,31 @@ use Rattle.fixed_bands.proofs.part30.Reads as part30_reads
 part30_requires : tie.Need-part30-requires
 part30_requires c κs = search rules
 
-add_inner : tie.Need-overflow-add-inner
+add_inner : tie.Need-overflow_add-inner
 add_inner c = search rules
 
 part30_requires_2 : tie.Need-part30-requires-2
 part30_requires_2 c κs = search rules
 
-sub_third : tie.Need-overflow-sub-third
+sub_third : tie.Need-overflow_sub-third
 sub_third c = search rules
 
 part30_requires_3 : tie.Need-part30-requires-3
 part30_requires_3 c κs = search rules
 
-add_second : tie.Need-overflow-add-second
+add_second : tie.Need-overflow_add-second
 add_second c = search rules
 
 part30_requires_4 : tie.Need-part30-requires-4
 part30_requires_4 c κs = search rules
 
-sub_first : tie.Need-overflow-sub-first
+sub_first : tie.Need-overflow_sub-first
 sub_first c = search rules
 
 part30_requires_5 : tie.Need-part30-requires-5
 part30_requires_5 c κs = search rules
 
-add_result : tie.Need-overflow-add-result
+add_result : tie.Need-overflow_add-result
 add_result c = search rules
 
 returns : tie.Need-returns

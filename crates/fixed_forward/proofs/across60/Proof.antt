@@ -7,7 +7,7 @@ use borrow.Author.Rules.{rules}
 use Rattle.fixed_forward.proofs.across60.Statement.{statement}
 use Rattle.fixed_forward.proofs.across60.Tie as tie
 
-mul60_requires : tie.Need-mul60-requires
+mul60_requires : tie.Need-mul60-a-requires
 mul60_requires c κs = search rules
 
 quot60_requires : tie.Need-quot60-requires
@@ -17,8 +17,8 @@ returns : tie.Need-returns
 unfolding across60
 returns c =
     let q = c.quot60.ensures.1 in
-    let a = c.before.before.requires in
-    (cc, quot_high 11 100 q (lit< tt) (omega (arith, a.halves)) (omega (arith, a.halves, a.longitude, c.before.mul60.ensures.1.tight, a.kc_high)))
+    let a = c.requires in
+    (cc, quot_high 11 100 q (lit< tt) (omega (arith, a.halves)) (omega (arith, a.halves, a.longitude, c.mul60-a.ensures.1.tight, a.kc_high)))
 
 pub across60_spec : {M : Type 1} → statement M
 across60_spec = tie.close (tie.spec mul60_requires quot60_requires returns)

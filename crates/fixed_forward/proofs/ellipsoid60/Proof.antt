@@ -13,13 +13,13 @@ Right radius centre k = (radius ≡ radius30 (which k)) × (centre ≡ centre30 
 by_flag : {radius centre : ℕ} {k b : Bool} → k ≡ b → Right radius centre b → Right radius centre k
 by_flag {radius} {centre} q h = subst (λ t. Right radius centre t) (sym q) h
 
-returns : tie.Need-returns
+returns : tie.Need-returns-then-krasovsky
 unfolding radius30 centre30
-returns c = (by_flag c.if1.true (refl, refl), (lit≤ tt, lit≤ tt))
+returns c = (by_flag c.if-krasovsky.true (refl, refl), (lit≤ tt, lit≤ tt))
 
-returns_2 : tie.Need-returns-2
+returns_2 : tie.Need-returns-else-krasovsky
 unfolding radius30 centre30
-returns_2 c = (by_flag c.if1.false (refl, refl), (lit≤ tt, lit≤ tt))
+returns_2 c = (by_flag c.if-krasovsky.false (refl, refl), (lit≤ tt, lit≤ tt))
 
 pub ellipsoid60_spec : {M : Type 1} → statement M
 ellipsoid60_spec = tie.close (tie.spec returns returns_2)

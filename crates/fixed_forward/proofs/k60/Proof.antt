@@ -20,17 +20,17 @@ chosen {r} k b n e h q =
     sized : {v lo hi : ℕ} → r ≡ v → lo ≤ v → v ≤ hi → (lo ≤ r) × (r ≤ hi)
     sized e a b = (omega arith, omega arith)
 
-k60_krasovsky_requires : tie.Need-k60-krasovsky-requires
+k60_krasovsky_requires : tie.Need-k60_krasovsky-requires
 k60_krasovsky_requires c κs = search rules
 
-returns : tie.Need-returns
-returns c = chosen c.before.before.args.krasovsky true c.before.before.args.n c.before.if1.true c.before.before.requires c.k60-krasovsky.ensures
+returns : tie.Need-returns-then-krasovsky
+returns c = chosen c.args.krasovsky true c.args.n c.if-krasovsky.true c.requires c.k60_krasovsky.ensures
 
-k60_grs80_requires : tie.Need-k60-grs80-requires
+k60_grs80_requires : tie.Need-k60_grs80-requires
 k60_grs80_requires c κs = search rules
 
-returns_2 : tie.Need-returns-2
-returns_2 c = chosen c.before.before.args.krasovsky false c.before.before.args.n c.before.if1.false c.before.before.requires c.k60-grs80.ensures
+returns_2 : tie.Need-returns
+returns_2 c = chosen c.args.krasovsky false c.args.n c.if-krasovsky.false c.requires c.k60_grs80.ensures
 
 pub k60_spec : {M : Type 1} → statement M
 k60_spec = tie.close (tie.spec k60_krasovsky_requires returns k60_grs80_requires returns_2)

@@ -11,39 +11,39 @@ use borrow.Author.Rules.{rules, sfits_of}
 use Rattle.fixed_forward.proofs.mercator60.Statement.{statement}
 use Rattle.fixed_forward.proofs.mercator60.Tie as tie
 
-ellipsoid60_requires : tie.Need-ellipsoid60-requires
+ellipsoid60_requires : tie.Need-ellipsoid60-k-requires
 ellipsoid60_requires c κs = search rules
 
-sphere60_requires : tie.Need-sphere60-requires
+sphere60_requires : tie.Need-sphere60-sphere-requires
 sphere60_requires c κs = search rules
 
-across60_requires : tie.Need-across60-requires
+across60_requires : tie.Need-across60-across-requires
 across60_requires c κs = search rules
 
-north30_requires : tie.Need-north30-requires
+north30_requires : tie.Need-north30-north-requires
 north30_requires c κs = search rules
 
-east30_requires : tie.Need-east30-requires
+east30_requires : tie.Need-east30-east-requires
 east30_requires c κs = search rules
 
 returns : tie.Need-returns
 unfolding east_of
 returns c =
-    let a = c.before.before.before.before.before in
+    let a = c in
     let E = which a.args.krasovsky in
     let n = a.args.n in
     let d = a.args.d in
-    let k = c.before.before.before.before.ellipsoid60.ensures.0 in
-    let s = c.before.before.before.sphere60.ensures.0 in
+    let k = c.ellipsoid60-k.ensures.0 in
+    let s = c.sphere60-sphere.ensures.0 in
     let ea = across_is E n d s in
     let en = north_is E n d s in (
       record {
         is_sphere = s;
-        is_across = c.before.before.across60.ensures.0 ∙ ea;
-        is_north = to_z-of_z w64 c.before.north30.result (sfits_of c.before.north30.type-inv) ∙ cc;
+        is_across = c.across60-across.ensures.0 ∙ ea;
+        is_north = to_z-of_z w64 c.north30-north.result (sfits_of c.north30-north.type_inv) ∙ cc;
         is_east = cc;
       },
-      (c.before.before.before.sphere60.ensures.1, c.before.before.across60.ensures.1),
+      (c.sphere60-sphere.ensures.1, c.across60-across.ensures.1),
     )
 
 pub mercator60_spec : {M : Type 1} → statement M

@@ -25,30 +25,30 @@ northward : {s : Bool} (a b : ℕ) → s ≡ false → pos (a + b) ≡ pos a +�
 unfolding turned
 northward a b e = ap (λ t. pos a +ℤ turned t (pos b)) (sym e)
 
-cast_result : tie.Need-overflow-cast-result
+cast_result : tie.Need-overflow_cast-result
 cast_result c = search rules
 
-cast_result_2 : tie.Need-overflow-cast-result-2
+cast_result_2 : tie.Need-overflow_cast-result-then-south
 cast_result_2 c = search rules
 
-sub_result : tie.Need-overflow-sub-result
-sub_result c = need_sub (small c.before.args.centre c.before.requires.0) (small c.before.args.r c.before.requires.1) tt
+sub_result : tie.Need-overflow_sub-result
+sub_result c = need_sub (small c.args.centre c.requires.0) (small c.args.r c.requires.1) tt
 
-add_result : tie.Need-overflow-add-result
+add_result : tie.Need-overflow_add-result
 add_result c = search rules
 
-cast_result_3 : tie.Need-overflow-cast-result-3
+cast_result_3 : tie.Need-overflow_cast-result-else-south
 cast_result_3 c = search rules
 
-returns : tie.Need-returns
+returns : tie.Need-returns-then-south
 returns c =
-    (v_sub w64 (small c.before.args.centre c.before.requires.0) (small c.before.args.r c.before.requires.1) tt).is
-    ∙ southward c.before.args.centre c.before.args.r c.if1.true
+    (v_sub w64 (small c.args.centre c.requires.0) (small c.args.r c.requires.1) tt).is
+    ∙ southward c.args.centre c.args.r c.if-south.true
 
-returns_2 : tie.Need-returns-2
+returns_2 : tie.Need-returns-else-south
 returns_2 c =
-    let h : c.before.args.centre + c.before.args.r ≤ 2 * 6838000000000000 = omega arith in
-    to_z_pos w64 (c.before.args.centre + c.before.args.r) (omega arith) ∙ northward c.before.args.centre c.before.args.r c.if1.false
+    let h : c.args.centre + c.args.r ≤ 2 * 6838000000000000 = omega arith in
+    to_z_pos w64 (c.args.centre + c.args.r) (omega arith) ∙ northward c.args.centre c.args.r c.if-south.false
 
 pub signed30_spec : {M : Type 1} → statement M
 signed30_spec =

@@ -8,28 +8,28 @@ use borrow.Author.Rules.{rules}
 use Rattle.fixed_forward.proofs.sphere60.Statement.{statement}
 use Rattle.fixed_forward.proofs.sphere60.Tie as tie
 
-latitude60_requires : tie.Need-latitude60-requires
+latitude60_requires : tie.Need-latitude60-b-requires
 latitude60_requires c κs = search rules
 
-longitude60_requires : tie.Need-longitude60-requires
+longitude60_requires : tie.Need-longitude60-a-requires
 longitude60_requires c κs = search rules
 
-k60_requires : tie.Need-k60-requires
+k60_requires : tie.Need-k60-k-requires
 k60_requires c κs = search rules
 
-halves60_requires : tie.Need-halves60-requires
+halves60_requires : tie.Need-halves60-h-requires
 halves60_requires c κs = search rules
 
-mul60_requires : tie.Need-mul60-requires
+mul60_requires : tie.Need-mul60-kc-requires
 mul60_requires c κs = search rules
 
 returns : tie.Need-returns
 returns c =
-    let b = c.before.before.before.before.latitude60.ensures in
-    let a = c.before.before.before.longitude60.ensures in
-    let k = c.before.before.k60.ensures in
-    let h = c.before.halves60.ensures in
-    let m = c.mul60.ensures in (
+    let b = c.latitude60-b.ensures in
+    let a = c.longitude60-a.ensures in
+    let k = c.k60-k.ensures in
+    let h = c.halves60-h.ensures in
+    let m = c.mul60-kc.ensures in (
       record { is_t = b.0.0; is_c = b.0.1; is_sd = a.0.0; is_cd = a.0.1; is_k = cc; is_n2 = cc; is_d2 = cc; is_kc = cc },
       record {
         latitude = b.1;

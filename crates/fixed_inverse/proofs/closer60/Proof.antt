@@ -15,15 +15,15 @@ use Rattle.fixed_inverse.proofs.closer60.Tie as tie
 small : {w s q : ℕ} → (S60 / 2 ≤ s) × (s ≤ S60) × (w ≤ w_high) → Quot60 w s q → q ≤ 5 * S60 / 4
 small h d = quot_high 5 4 d (lit< tt) (omega arith) (omega arith)
 
-quot60_requires : tie.Need-quot60-requires
+quot60_requires : tie.Need-quot60-q-requires
 quot60_requires c κs = search rules
 
-add_result : tie.Need-overflow-add-result
-add_result c = omega (arith, small c.before.requires c.quot60.ensures.1)
+add_result : tie.Need-overflow_add-result
+add_result c = omega (arith, small c.requires c.quot60-q.ensures.1)
 
 returns : tie.Need-returns
 unfolding closer60
-returns c = ap (λ q. (c.before.args.s + q) / 2) c.quot60.ensures.0
+returns c = ap (λ q. (c.args.s + q) / 2) c.quot60-q.ensures.0
 
 pub closer60_spec : {M : Type 1} → statement M
 closer60_spec = tie.close (tie.spec quot60_requires add_result returns)

@@ -27,40 +27,28 @@ module _ {p q s d : ℕ} (h : Pre p q) (es : s ≡ odd_ser60 q small_sine_table)
   tangent : {t : ℕ} → t ≡ quot60 s d → t ≤ difference_high
   tangent {t} et = subst (λ z. z ≤ difference_high) (sym et) (subst₂ (λ x y. quot60 x y ≤ difference_high) (sym es) (sym ed) (tangent_size h.0 h.1 h.2))
 
-slice_aggregate_odd_ser60 : tie.Need-slice-aggregate-odd-ser60
-slice_aggregate_odd_ser60 c = search rules
-
-odd_ser60_requires : tie.Need-odd-ser60-requires
+odd_ser60_requires : tie.Need-odd_ser60-s-requires
 odd_ser60_requires c κs = search rules
 
-slice_aggregate_even_alt60 : tie.Need-slice-aggregate-even-alt60
-slice_aggregate_even_alt60 c = search rules
-
-even_alt60_requires : tie.Need-even-alt60-requires
+even_alt60_requires : tie.Need-even_alt60-c-requires
 even_alt60_requires c κs = search rules
 
-quot60_requires : tie.Need-quot60-requires
-quot60_requires c κs = asked c.before.before.before.before.requires c.before.before.odd_ser60.ensures.0 c.even_alt60.ensures.0
+quot60_requires : tie.Need-quot60-t-requires
+quot60_requires c κs = asked c.requires c.odd_ser60-s.ensures.0 c.even_alt60-c.ensures.0
 
-slice_aggregate_odd_alt60 : tie.Need-slice-aggregate-odd-alt60
-slice_aggregate_odd_alt60 c = search rules
-
-odd_alt60_requires : tie.Need-odd-alt60-requires
-odd_alt60_requires c κs = (tt, le_trans (tangent c.before.before.before.before.before.before.requires c.before.before.before.before.odd_ser60.ensures.0 c.before.before.even_alt60.ensures.0 c.before.quot60.ensures.0) (lit≤ tt))
+odd_alt60_requires : tie.Need-odd_alt60-requires
+odd_alt60_requires c κs = (tt, le_trans (tangent c.requires c.odd_ser60-s.ensures.0 c.even_alt60-c.ensures.0 c.quot60-t.ensures.0) (lit≤ tt))
 
 returns : tie.Need-returns
 unfolding difference60
-returns c = (cc, le_trans c.odd_alt60.ensures.1 (tangent c.before.before.before.before.before.before.before.requires c.before.before.before.before.before.odd_ser60.ensures.0 c.before.before.before.even_alt60.ensures.0 c.before.before.quot60.ensures.0))
+returns c = (cc, le_trans c.odd_alt60.ensures.1 (tangent c.requires c.odd_ser60-s.ensures.0 c.even_alt60-c.ensures.0 c.quot60-t.ensures.0))
 
 pub difference60_spec : {M : Type 1} → statement M
 difference60_spec =
     tie.close
     (tie.spec
-    slice_aggregate_odd_ser60
     odd_ser60_requires
-    slice_aggregate_even_alt60
     even_alt60_requires
     quot60_requires
-    slice_aggregate_odd_alt60
     odd_alt60_requires
     returns)

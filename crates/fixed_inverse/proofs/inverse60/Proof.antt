@@ -30,42 +30,36 @@ cosh_range h e = subst (λ z. (S60 ≤ z) × (z ≤ cosh_high)) (sym e) (cosh_si
 half : (q : ℕ) → q ≤ q_high → 2 * q ≤ S60
 half q h = omega arith
 
-angle60_requires : tie.Need-angle60-requires
+angle60_requires : tie.Need-angle60-p-requires
 angle60_requires c κs = search rules
 
-angle60_requires_2 : tie.Need-angle60-requires-2
+angle60_requires_2 : tie.Need-angle60-q-requires
 angle60_requires_2 c κs = search rules
 
-slice_aggregate_odd_alt60 : tie.Need-slice-aggregate-odd-alt60
-slice_aggregate_odd_alt60 c = search rules
+odd_alt60_requires : tie.Need-odd_alt60-s-requires
+odd_alt60_requires c κs = (tt, le_trans (p_range c.args.krasovsky c.requires c.angle60-p.ensures).1 (lit≤ tt))
 
-odd_alt60_requires : tie.Need-odd-alt60-requires
-odd_alt60_requires c κs = (tt, le_trans (p_range c.before.before.before.args.krasovsky c.before.before.before.requires c.before.before.angle60.ensures).1 (lit≤ tt))
+even_ser60_requires : tie.Need-even_ser60-c-requires
+even_ser60_requires c κs = (tt, half c.angle60-q.result (q_range c.args.krasovsky c.requires c.angle60-q.ensures))
 
-slice_aggregate_even_ser60 : tie.Need-slice-aggregate-even-ser60
-slice_aggregate_even_ser60 c = search rules
-
-even_ser60_requires : tie.Need-even-ser60-requires
-even_ser60_requires c κs = (tt, half c.before.before.before.angle602.result (q_range c.before.before.before.before.before.args.krasovsky c.before.before.before.before.before.requires c.before.before.before.angle602.ensures))
-
-sphere60_requires : tie.Need-sphere60-requires
-sphere60_requires c κs = let k = c.before.before.before.before.before.before.args.krasovsky in let h = c.before.before.before.before.before.before.requires in let s = sine_range (p_range k h c.before.before.before.before.before.angle60.ensures) c.before.before.odd_alt60.ensures.0 in let d = cosh_range (q_range k h c.before.before.before.before.angle602.ensures) c.even_ser60.ensures.0 in (s.0, s.1, d.0, d.1)
+sphere60_requires : tie.Need-sphere60-f-requires
+sphere60_requires c κs = let k = c.args.krasovsky in let h = c.requires in let s = sine_range (p_range k h c.angle60-p.ensures) c.odd_alt60-s.ensures.0 in let d = cosh_range (q_range k h c.angle60-q.ensures) c.even_ser60-c.ensures.0 in (s.0, s.1, d.0, d.1)
 
 latitude60_requires : tie.Need-latitude60-requires
 latitude60_requires c κs = search rules
 
-ticks60_requires : tie.Need-ticks60-requires
+ticks60_requires : tie.Need-ticks60-latitude-requires
 ticks60_requires c κs = search rules
 
 difference60_requires : tie.Need-difference60-requires
-difference60_requires c κs = let k = c.before.before.before.before.before.before.before.before.before.args.krasovsky in let h = c.before.before.before.before.before.before.before.before.before.requires in let p = p_range k h c.before.before.before.before.before.before.before.before.angle60.ensures in (p.0, p.1, q_range k h c.before.before.before.before.before.before.before.angle602.ensures)
+difference60_requires c κs = let k = c.args.krasovsky in let h = c.requires in let p = p_range k h c.angle60-p.ensures in (p.0, p.1, q_range k h c.angle60-q.ensures)
 
-ticks60_requires_2 : tie.Need-ticks60-requires-2
+ticks60_requires_2 : tie.Need-ticks60-difference-requires
 ticks60_requires_2 c κs = search rules
 
 returns : tie.Need-returns
 unfolding latitude_ticks difference_ticks
-returns c = ((cc, cc), (c.before.before.ticks60.ensures.1, c.ticks602.ensures.1))
+returns c = ((cc, cc), (c.ticks60-latitude.ensures.1, c.ticks60-difference.ensures.1))
 
 pub inverse60_spec : {M : Type 1} → statement M
 inverse60_spec =
@@ -73,9 +67,7 @@ inverse60_spec =
     (tie.spec
     angle60_requires
     angle60_requires_2
-    slice_aggregate_odd_alt60
     odd_alt60_requires
-    slice_aggregate_even_ser60
     even_ser60_requires
     sphere60_requires
     latitude60_requires

@@ -54,26 +54,26 @@ module _ (n d : ℕ) where
       go (yes k) = down k
       go (no k) = let o = even (n / d) (n % d) l h k in o.2 ∙ halfway o.0 o.1
 
-div_q : tie.Need-nonzero-div-q
+div_q : tie.Need-nonzero_div-q
 div_q c = search rules
 
-rem_r : tie.Need-nonzero-rem-r
+rem_r : tie.Need-nonzero_rem-r
 rem_r c = search rules
 
-sub_if1 : tie.Need-overflow-sub-if1
+sub_if1 : tie.Need-overflow_sub-d
 sub_if1 c = omega (arith, mod-lt c.args.n c.requires.0)
 
-add_if1 : tie.Need-overflow-add-if1
+add_if1 : tie.Need-overflow_add-r
 add_if1 c = omega (arith, mod-lt c.args.n c.requires.0)
 
-add_result : tie.Need-overflow-add-result
-add_result c = omega (arith, below c.before.args.n c.before.args.d c.before.requires.0 (omega (arith, mod-lt c.before.args.n c.before.requires.0)))
+add_result : tie.Need-overflow_add-result
+add_result c = omega (arith, below c.args.n c.args.d c.requires.0 (omega (arith, mod-lt c.args.n c.requires.0)))
 
-returns : tie.Need-returns
-returns c = (one_more c.before.args.n c.before.args.d (mod-lt c.before.args.n c.before.requires.0) c.if1.true, omega arith)
+returns : tie.Need-returns-then-d-r
+returns c = (one_more c.args.n c.args.d (mod-lt c.args.n c.requires.0) c.if-d-r.true, omega arith)
 
-returns_2 : tie.Need-returns-2
-returns_2 c = (no_more c.before.args.n c.before.args.d (mod-lt c.before.args.n c.before.requires.0) c.if1.false, omega arith)
+returns_2 : tie.Need-returns
+returns_2 c = (no_more c.args.n c.args.d (mod-lt c.args.n c.requires.0) c.if-d-r.false, omega arith)
 
 pub nearest_even_spec : {M : Type 1} → statement M
 nearest_even_spec = tie.close (tie.spec div_q rem_r sub_if1 add_if1 add_result returns returns_2)

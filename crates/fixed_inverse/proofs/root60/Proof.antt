@@ -42,32 +42,32 @@ module _ {w : ℕ} (h : (w_low ≤ w) × (w ≤ w_high)) where
   unfolding root60
   last e f = let g = f ∙ ap (closer60 w) e in (g, subst (λ z. root_least ≤ z) (sym g) bounds.low, subst (λ z. z ≤ root_most) (sym g) bounds.high)
 
-sub_v : tie.Need-overflow-sub-v
+sub_v : tie.Need-overflow_sub-v
 sub_v c = search rules
 
-mul_v : tie.Need-overflow-mul-v
+mul_v : tie.Need-overflow_mul-v
 mul_v c = search rules
 
-mul60_requires : tie.Need-mul60-requires
+mul60_requires : tie.Need-mul60-a-requires
 mul60_requires c κs = search rules
 
-sub_mul60 : tie.Need-overflow-sub-mul60
+sub_mul60 : tie.Need-overflow_sub-a
 sub_mul60 c = search rules
 
-mul60_requires_2 : tie.Need-mul60-requires-2
-mul60_requires_2 c κs = small c.before.args.w c.mul60.result c.before.requires.1
+mul60_requires_2 : tie.Need-mul60-b-requires
+mul60_requires_2 c κs = small c.args.w c.mul60-a.result c.requires.1
 
-add_closer60 : tie.Need-overflow-add-closer60
-add_closer60 c = omega (arith, seed_high c.before.before.requires (seed_is c.before.before.requires c.before.mul60.ensures.0 c.mul602.ensures.0))
+add_closer60 : tie.Need-overflow_add-b
+add_closer60 c = omega (arith, seed_high c.requires (seed_is c.requires c.mul60-a.ensures.0 c.mul60-b.ensures.0))
 
-closer60_requires : tie.Need-closer60-requires
-closer60_requires c κs = first c.before.before.requires (seed_is c.before.before.requires c.before.mul60.ensures.0 c.mul602.ensures.0)
+closer60_requires : tie.Need-closer60-s-requires
+closer60_requires c κs = first c.requires (seed_is c.requires c.mul60-a.ensures.0 c.mul60-b.ensures.0)
 
-closer60_requires_2 : tie.Need-closer60-requires-2
-closer60_requires_2 c κs = let h = c.before.before.before.requires in second h (step_is h (seed_is h c.before.before.mul60.ensures.0 c.before.mul602.ensures.0) c.closer60.ensures)
+closer60_requires_2 : tie.Need-closer60-requires
+closer60_requires_2 c κs = let h = c.requires in second h (step_is h (seed_is h c.mul60-a.ensures.0 c.mul60-b.ensures.0) c.closer60-s.ensures)
 
 returns : tie.Need-returns
-returns c = let h = c.before.before.before.before.requires in let z = last h (step_is h (seed_is h c.before.before.before.mul60.ensures.0 c.before.before.mul602.ensures.0) c.before.closer60.ensures) c.closer602.ensures in (z.0, (z.1, z.2))
+returns c = let h = c.requires in let z = last h (step_is h (seed_is h c.mul60-a.ensures.0 c.mul60-b.ensures.0) c.closer60-s.ensures) c.closer60.ensures in (z.0, (z.1, z.2))
 
 pub root60_spec : {M : Type 1} → statement M
 root60_spec =

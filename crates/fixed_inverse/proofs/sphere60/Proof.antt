@@ -34,40 +34,37 @@ module _ (s d : ℕ) {w m t a : ℕ} {south : Bool} (ew : w ≡ mul60 (d - s) (d
   at : (b : Bool) → south ≡ b → a ≤ 88 * S60 / 1000 → (beside_52 b a ≡ sphere60 s d) × ((f_low ≤ beside_52 b a) × (beside_52 b a ≤ f_high))
   at b e k = let z = beside_size b k in (subst (λ x. beside_52 x a ≡ sphere60 s d) e same, (z.0, z.1))
 
-sub_mul60 : tie.Need-overflow-sub-mul60
+sub_mul60 : tie.Need-overflow_sub-c
 sub_mul60 c = search rules
 
-add_mul60 : tie.Need-overflow-add-mul60
+add_mul60 : tie.Need-overflow_add-c
 add_mul60 c = search rules
 
-mul60_requires : tie.Need-mul60-requires
+mul60_requires : tie.Need-mul60-w-requires
 mul60_requires c κs = search rules
 
-root60_requires : tie.Need-root60-requires
-root60_requires c κs = number c.before.requires c.mul60.ensures.1
+root60_requires : tie.Need-root60-m-requires
+root60_requires c κs = number c.requires c.mul60-w.ensures.1
 
-tilt60_requires : tie.Need-tilt60-requires
+tilt60_requires : tie.Need-tilt60-t-requires
 tilt60_requires c κs = search rules
 
-slice_aggregate_odd_alt60 : tie.Need-slice-aggregate-odd-alt60
-slice_aggregate_odd_alt60 c = search rules
-
-odd_alt60_requires : tie.Need-odd-alt60-requires
+odd_alt60_requires : tie.Need-odd_alt60-a-requires
 odd_alt60_requires c κs = search rules
 
-sub_result : tie.Need-overflow-sub-result
-sub_result c = le_trans (turn c.before.before.before.before.before.before.requires c.before.before.before.before.root60.ensures.1 c.before.before.before.tilt60.ensures.0.1 c.before.odd_alt60.ensures.1) (lit≤ tt)
+sub_result : tie.Need-overflow_sub-result
+sub_result c = le_trans (turn c.requires c.root60-m.ensures.1 c.tilt60-t.ensures.0.1 c.odd_alt60-a.ensures.1) (lit≤ tt)
 
-add_result : tie.Need-overflow-add-result
+add_result : tie.Need-overflow_add-result
 add_result c = search rules
 
-returns : tie.Need-returns
+returns : tie.Need-returns-then-t
 unfolding beside_52
-returns c = at c.before.before.before.before.before.before.args.s c.before.before.before.before.before.before.args.c c.before.before.before.before.before.mul60.ensures.0 c.before.before.before.before.root60.ensures.0 c.before.before.before.tilt60.ensures.0.0 c.before.before.before.tilt60.ensures.0.1 c.before.odd_alt60.ensures.0 true c.if1.true (turn c.before.before.before.before.before.before.requires c.before.before.before.before.root60.ensures.1 c.before.before.before.tilt60.ensures.0.1 c.before.odd_alt60.ensures.1)
+returns c = at c.args.s c.args.c c.mul60-w.ensures.0 c.root60-m.ensures.0 c.tilt60-t.ensures.0.0 c.tilt60-t.ensures.0.1 c.odd_alt60-a.ensures.0 true c.if-t.true (turn c.requires c.root60-m.ensures.1 c.tilt60-t.ensures.0.1 c.odd_alt60-a.ensures.1)
 
-returns_2 : tie.Need-returns-2
+returns_2 : tie.Need-returns-else-t
 unfolding beside_52
-returns_2 c = at c.before.before.before.before.before.before.args.s c.before.before.before.before.before.before.args.c c.before.before.before.before.before.mul60.ensures.0 c.before.before.before.before.root60.ensures.0 c.before.before.before.tilt60.ensures.0.0 c.before.before.before.tilt60.ensures.0.1 c.before.odd_alt60.ensures.0 false c.if1.false (turn c.before.before.before.before.before.before.requires c.before.before.before.before.root60.ensures.1 c.before.before.before.tilt60.ensures.0.1 c.before.odd_alt60.ensures.1)
+returns_2 c = at c.args.s c.args.c c.mul60-w.ensures.0 c.root60-m.ensures.0 c.tilt60-t.ensures.0.0 c.tilt60-t.ensures.0.1 c.odd_alt60-a.ensures.0 false c.if-t.false (turn c.requires c.root60-m.ensures.1 c.tilt60-t.ensures.0.1 c.odd_alt60-a.ensures.1)
 
 pub sphere60_spec : {M : Type 1} → statement M
 sphere60_spec =
@@ -78,7 +75,6 @@ sphere60_spec =
     mul60_requires
     root60_requires
     tilt60_requires
-    slice_aggregate_odd_alt60
     odd_alt60_requires
     sub_result
     add_result

@@ -12,12 +12,12 @@ small h k = omega arith
 mul60_requires : tie.Need-mul60-requires
 mul60_requires c κs = search rules
 
-nearest_even_requires : tie.Need-nearest-even-requires
+nearest_even_requires : tie.Need-nearest_even-requires
 nearest_even_requires c κs = search rules
 
 returns : tie.Need-returns
 unfolding ticks60
-returns c = (cc, small c.before.mul60.ensures.1.right c.nearest_even.ensures.1)
+returns c = (cc, small c.mul60.ensures.1.right c.nearest_even.ensures.1)
 
 pub ticks60_spec : {M : Type 1} → statement M
 ticks60_spec = tie.close (tie.spec mul60_requires nearest_even_requires returns)

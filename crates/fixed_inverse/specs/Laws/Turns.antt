@@ -116,7 +116,7 @@ module _ {p q : ℕ} {P : ℤ} (f : Fixed p P (27000 * unit) p_low p_high) (s : 
   unfolding numbers difference60
   near_difference = fix_le (57000 * unit) 0 difference_high (fix_arctan wide_arctan_table s (quotient (hyperbolic_sine Q) (cosine P)) tt near_tangent tt tt tt) tt tt tt
 
--- ---- the sizes by themselves, from the same laws at a made_up value
+-- ---- the sizes by themselves, from the same laws at a made-up value
 module _ {v lo hi : ℕ} (a : lo ≤ v) (b : v ≤ hi) where
   made_up : Fixed v (self v) (27000 * unit) lo hi
   made_up = record { near = near_self v (27000 * unit) tt; low = a; high = b }

@@ -7,10 +7,7 @@ use borrow.Author.Rules.{rules, sfits_of}
 use Rattle.fixed_scale.proofs.convergence60.Statement.{statement}
 use Rattle.fixed_scale.proofs.convergence60.Tie as tie
 
-slice_aggregate_odd_alt60 : tie.Need-slice-aggregate-odd-alt60
-slice_aggregate_odd_alt60 c = search rules
-
-odd_alt60_requires : tie.Need-odd-alt60-requires
+odd_alt60_requires : tie.Need-odd_alt60-r-requires
 odd_alt60_requires c κs = search rules
 
 less60_requires : tie.Need-less60-requires
@@ -18,8 +15,8 @@ less60_requires c κs = search rules
 
 returns : tie.Need-returns
 unfolding convergence60
-returns c = to_z-of_z w64 c.less60.result (sfits_of c.less60.type-inv) ∙ cc
+returns c = to_z-of_z w64 c.less60.result (sfits_of c.less60.type_inv) ∙ cc
 
 pub convergence60_spec : {M : Type 1} → statement M
 convergence60_spec =
-    tie.close (tie.spec slice_aggregate_odd_alt60 odd_alt60_requires less60_requires returns)
+    tie.close (tie.spec odd_alt60_requires less60_requires returns)

@@ -31,29 +31,29 @@ forward : {s : Bool} (a b : ℕ) → s ≡ false → pos a -ℤ pos b ≡ pos a 
 unfolding turned
 forward a b e = ap (λ t. pos a -ℤ turned t (pos b)) (sym e)
 
-add_result : tie.Need-overflow-add-result
+add_result : tie.Need-overflow_add-result
 add_result c = search rules
 
-cast_result : tie.Need-overflow-cast-result
+cast_result : tie.Need-overflow_cast-result
 cast_result c = search rules
 
-cast_result_2 : tie.Need-overflow-cast-result-2
+cast_result_2 : tie.Need-overflow_cast-result-else-back
 cast_result_2 c = search rules
 
-cast_result_3 : tie.Need-overflow-cast-result-3
+cast_result_3 : tie.Need-overflow_cast-result-else-back-2
 cast_result_3 c = search rules
 
-sub_result : tie.Need-overflow-sub-result
-sub_result c = need_sub (small c.before.args.turn c.before.requires.0) (small c.before.args.r c.before.requires.1) tt
+sub_result : tie.Need-overflow_sub-result
+sub_result c = need_sub (small c.args.turn c.requires.0) (small c.args.r c.requires.1) tt
 
-returns : tie.Need-returns
+returns : tie.Need-returns-then-back
 returns c =
-    to_z_pos w64 (c.before.args.turn + c.before.args.r) (omega arith) ∙ backward c.before.args.turn c.before.args.r c.if1.true
+    to_z_pos w64 (c.args.turn + c.args.r) (omega arith) ∙ backward c.args.turn c.args.r c.if-back.true
 
-returns_2 : tie.Need-returns-2
+returns_2 : tie.Need-returns-else-back
 returns_2 c =
-    (v_sub w64 (small c.before.args.turn c.before.requires.0) (small c.before.args.r c.before.requires.1) tt).is
-    ∙ forward c.before.args.turn c.before.args.r c.if1.false
+    (v_sub w64 (small c.args.turn c.requires.0) (small c.args.r c.requires.1) tt).is
+    ∙ forward c.args.turn c.args.r c.if-back.false
 
 pub less60_spec : {M : Type 1} → statement M
 less60_spec =

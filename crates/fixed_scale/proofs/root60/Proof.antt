@@ -8,26 +8,23 @@ use borrow.Author.Rules.{rules}
 use Rattle.fixed_scale.proofs.root60.Statement.{statement}
 use Rattle.fixed_scale.proofs.root60.Tie as tie
 
-slice_aggregate_ser60 : tie.Need-slice-aggregate-ser60
-slice_aggregate_ser60 c = search rules
-
-ser60_requires : tie.Need-ser60-requires
+ser60_requires : tie.Need-ser60-s-requires
 ser60_requires c κs = search rules
 
 mul60_requires : tie.Need-mul60-requires
 mul60_requires c κs = search rules
 
-sub_result : tie.Need-overflow-sub-result
+sub_result : tie.Need-overflow_sub-result
 sub_result c = search rules
 
 returns : tie.Need-returns
 unfolding root60
 returns c =
-    let x = c.before.before.before.args.x in
+    let x = c.args.x in
     let e : 1152921504606846976 - c.mul60.result ≡ root60 x = cc in
-    let r = root60_is x x (le_refl x) c.before.before.before.requires in
+    let r = root60_is x x (le_refl x) c.requires in
     (e, subst (λ t. (S60 - x ≤ t) × (t ≤ S60)) (sym e) (r.low, r.high))
 
 pub root60_spec : {M : Type 1} → statement M
 root60_spec =
-    tie.close (tie.spec slice_aggregate_ser60 ser60_requires mul60_requires sub_result returns)
+    tie.close (tie.spec ser60_requires mul60_requires sub_result returns)

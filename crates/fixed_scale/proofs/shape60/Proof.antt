@@ -14,13 +14,13 @@ Right square ratio k = (square ≡ square60 (which k)) × (ratio ≡ ratio60 (wh
 by_flag : {square ratio : ℕ} {k b : Bool} → k ≡ b → Right square ratio b → Right square ratio k
 by_flag {square} {ratio} q h = subst (λ t. Right square ratio t) (sym q) h
 
-returns : tie.Need-returns
+returns : tie.Need-returns-then-krasovsky
 unfolding square60 ratio60
-returns c = (by_flag c.if1.true (refl, refl), (lit≤ tt, lit≤ tt))
+returns c = (by_flag c.if-krasovsky.true (refl, refl), (lit≤ tt, lit≤ tt))
 
-returns_2 : tie.Need-returns-2
+returns_2 : tie.Need-returns-else-krasovsky
 unfolding square60 ratio60
-returns_2 c = (by_flag c.if1.false (refl, refl), (lit≤ tt, lit≤ tt))
+returns_2 c = (by_flag c.if-krasovsky.false (refl, refl), (lit≤ tt, lit≤ tt))
 
 pub shape60_spec : {M : Type 1} → statement M
 shape60_spec = tie.close (tie.spec returns returns_2)

@@ -33,44 +33,44 @@ positive u = omega arith
 slope : {over under : ℕ} → 87 * S60 / 100 ≤ under → over ≤ S60 → 4 * over ≤ 5 * under
 slope u o = omega arith
 
-mul60_requires : tie.Need-mul60-requires
+mul60_requires : tie.Need-mul60-sine_squared-requires
 mul60_requires c κs = omega arith
 
-mul60_requires_2 : tie.Need-mul60-requires-2
+mul60_requires_2 : tie.Need-mul60-shortened-requires
 mul60_requires_2 c κs = omega arith
 
-root60_requires : tie.Need-root60-requires
+root60_requires : tie.Need-root60-meridian-requires
 root60_requires c κs = omega arith
 
-mul60_requires_3 : tie.Need-mul60-requires-3
+mul60_requires_3 : tie.Need-mul60-across_squared-requires
 mul60_requires_3 c κs = omega arith
 
-root60_requires_2 : tie.Need-root60-requires-2
+root60_requires_2 : tie.Need-root60-spread-requires
 root60_requires_2 c κs = omega arith
 
-mul60_requires_4 : tie.Need-mul60-requires-4
+mul60_requires_4 : tie.Need-mul60-lifted-requires
 mul60_requires_4 c κs = omega arith
 
-mul60_requires_5 : tie.Need-mul60-requires-5
+mul60_requires_5 : tie.Need-mul60-over-requires
 mul60_requires_5 c κs = omega arith
 
-mul60_requires_6 : tie.Need-mul60-requires-6
+mul60_requires_6 : tie.Need-mul60-under-requires
 mul60_requires_6 c κs = omega arith
 
 quot60_requires : tie.Need-quot60-requires
 quot60_requires c κs =
-    let a = c.before.before.before.before.before.before.before.before.requires in
-    let u = under_low a.3 a.2.halves.denominator_low c.before.before.before.before.mul603.ensures.1 c.before.before.before.root602.ensures.1.0 c.mul606.ensures.1 in
-    let o = over_high a.2.k_high a.1 c.before.before.before.before.before.root60.ensures.1.1 c.before.before.mul604.ensures.1.tight c.before.mul605.ensures.1.tight in
-    let h = under_high a.2.halves.denominator_high c.before.before.before.root602.ensures.1.1 c.mul606.ensures.1 in
+    let a = c.requires in
+    let u = under_low a.3 a.2.halves.denominator_low c.mul60-across_squared.ensures.1 c.root60-spread.ensures.1.0 c.mul60-under.ensures.1 in
+    let o = over_high a.2.k_high a.1 c.root60-meridian.ensures.1.1 c.mul60-lifted.ensures.1.tight c.mul60-over.ensures.1.tight in
+    let h = under_high a.2.halves.denominator_high c.root60-spread.ensures.1.1 c.mul60-under.ensures.1 in
     asked u h o
 
 returns : tie.Need-returns
 unfolding sphere_scale60 meridian60 spread60
 returns c =
-    let a = c.before.before.before.before.before.before.before.before.before.requires in
-    let u = under_low a.3 a.2.halves.denominator_low c.before.before.before.before.before.mul603.ensures.1 c.before.before.before.before.root602.ensures.1.0 c.before.mul606.ensures.1 in
-    let o = over_high a.2.k_high a.1 c.before.before.before.before.before.before.root60.ensures.1.1 c.before.before.before.mul604.ensures.1.tight c.before.before.mul605.ensures.1.tight in
+    let a = c.requires in
+    let u = under_low a.3 a.2.halves.denominator_low c.mul60-across_squared.ensures.1 c.root60-spread.ensures.1.0 c.mul60-under.ensures.1 in
+    let o = over_high a.2.k_high a.1 c.root60-meridian.ensures.1.1 c.mul60-lifted.ensures.1.tight c.mul60-over.ensures.1.tight in
     (cc, quot_high 5 4 c.quot60.ensures.1 (lit< tt) (positive u) (slope u o))
 
 pub sphere_scale60_spec : {M : Type 1} → statement M

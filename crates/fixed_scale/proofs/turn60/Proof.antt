@@ -18,32 +18,29 @@ high h z k l p m q =
     let a1 = mul_small m (omega arith) in
     quot_high 98 1000 q (lit< tt) (omega arith) (omega arith)
 
-quot60_requires : tie.Need-quot60-requires
+quot60_requires : tie.Need-quot60-f-requires
 quot60_requires c κs = omega arith
 
-mul60_requires : tie.Need-mul60-requires
+mul60_requires : tie.Need-mul60-a-requires
 mul60_requires c κs =
-    let s = c.before.requires in
-    let q = quot_high 1 1 c.quot60.ensures.1 (lit< tt) (omega (arith, s.halves)) (omega (arith, s.halves)) in
+    let s = c.requires in
+    let q = quot_high 1 1 c.quot60-f.ensures.1 (lit< tt) (omega (arith, s.halves)) (omega (arith, s.halves)) in
     (omega (arith, s.longitude), omega arith)
 
-quot60_requires_2 : tie.Need-quot60-requires-2
+quot60_requires_2 : tie.Need-quot60-v-requires
 quot60_requires_2 c κs = omega arith
 
-slice_aggregate_odd_alt60 : tie.Need-slice-aggregate-odd-alt60
-slice_aggregate_odd_alt60 c = omega arith
-
-odd_alt60_requires : tie.Need-odd-alt60-requires
+odd_alt60_requires : tie.Need-odd_alt60-requires
 odd_alt60_requires c κs =
-    let s = c.before.before.before.before.requires in
-    let v = high (omega (arith, s.halves)) (omega (arith, s.halves)) s.longitude.sine_high s.longitude.cosine_low c.before.before.before.quot60.ensures.1 c.before.before.mul60.ensures.1 c.before.quot602.ensures.1 in
+    let s = c.requires in
+    let v = high (omega (arith, s.halves)) (omega (arith, s.halves)) s.longitude.sine_high s.longitude.cosine_low c.quot60-f.ensures.1 c.mul60-a.ensures.1 c.quot60-v.ensures.1 in
     (tt, le_trans v (lit≤ tt))
 
 returns : tie.Need-returns
 unfolding turn60 sine_f60
 returns c =
-    let s = c.before.before.before.before.before.requires in
-    let v = high (omega (arith, s.halves)) (omega (arith, s.halves)) s.longitude.sine_high s.longitude.cosine_low c.before.before.before.before.quot60.ensures.1 c.before.before.before.mul60.ensures.1 c.before.before.quot602.ensures.1 in
+    let s = c.requires in
+    let v = high (omega (arith, s.halves)) (omega (arith, s.halves)) s.longitude.sine_high s.longitude.cosine_low c.quot60-f.ensures.1 c.mul60-a.ensures.1 c.quot60-v.ensures.1 in
     (cc, le_trans c.odd_alt60.ensures.1 (le_trans v (lit≤ tt)))
 
 pub turn60_spec : {M : Type 1} → statement M
@@ -53,6 +50,5 @@ turn60_spec =
     quot60_requires
     mul60_requires
     quot60_requires_2
-    slice_aggregate_odd_alt60
     odd_alt60_requires
     returns)

@@ -15,13 +15,13 @@ small h k l = omega arith
 mul60_requires : tie.Need-mul60-requires
 mul60_requires c κs = search rules
 
-nearest_even_requires : tie.Need-nearest-even-requires
+nearest_even_requires : tie.Need-nearest_even-requires
 nearest_even_requires c κs = search rules
 
 returns : tie.Need-returns
 unfolding angle_units
 returns c =
-    (c.nearest_even.ensures.0 ∙ ap (λ n. nearest_even n (2 ^ 32)) c.before.mul60.ensures.0, small c.before.before.requires c.before.mul60.ensures.1.left c.nearest_even.ensures.1)
+    (c.nearest_even.ensures.0 ∙ ap (λ n. nearest_even n (2 ^ 32)) c.mul60.ensures.0, small c.requires c.mul60.ensures.1.left c.nearest_even.ensures.1)
 
 pub angle_units_spec : {M : Type 1} → statement M
 angle_units_spec = tie.close (tie.spec mul60_requires nearest_even_requires returns)

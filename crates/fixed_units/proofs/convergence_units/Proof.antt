@@ -57,49 +57,49 @@ size_is r h = v_is (to_z_pos w64 r (omega arith)) h
 answer_is : {x z t : ℤ} → Is x z (10 ^ 9) → z ≡ t → (x ≡ t) × (nat_abs x ≤ 10 ^ 9)
 answer_is h e = (h.is ∙ e, subst (λ y. nat_abs y ≤ 10 ^ 9) (sym h.is) h.size)
 
-sub_angle_units : tie.Need-overflow-sub-angle-units
+sub_angle_units : tie.Need-overflow_sub-g
 sub_angle_units c = need_sub (v_num 0) (g_is c.before) tt
 
-cast_angle_units : tie.Need-overflow-cast-angle-units
+cast_angle_units : tie.Need-overflow_cast-g
 cast_angle_units c =
     let m = v_sub w64 (v_num 0) (g_is c.before) tt in
-    subst (λ x. T (non_neg x) × Fits w64 (nat_abs x)) (sym m.is) (nonneg _ (minus_nonneg (g c.before) (lt_yes (g_is c.before) (v_num 0) c.if1.true)), word _ (omega (arith, m.size)))
+    subst (λ x. T (non_neg x) × Fits w64 (nat_abs x)) (sym m.is) (nonneg _ (minus_nonneg (g c.before) (lt_yes (g_is c.before) (v_num 0) c.if-g-lt0.true)), word _ (omega (arith, m.size)))
 
-angle_units_requires : tie.Need-angle-units-requires
+angle_units_requires : tie.Need-angle_units-west-requires
 angle_units_requires c κs =
     let m = v_sub w64 (v_num 0) (g_is c.before) tt in
     subst (λ x. nat_abs x ≤ S60 / 2) (sym m.is) m.size
 
-cast_result : tie.Need-overflow-cast-result
+cast_result : tie.Need-overflow_cast-result
 cast_result c = search rules
 
-sub_result : tie.Need-overflow-sub-result
-sub_result c = need_sub (v_num 0) (size_is c.angle_units.result c.angle_units.ensures.1) tt
+sub_result : tie.Need-overflow_sub-result
+sub_result c = need_sub (v_num 0) (size_is c.angle_units-west.result c.angle_units-west.ensures.1) tt
 
-returns : tie.Need-returns
+returns : tie.Need-returns-then-g-lt0
 returns c =
     let b = c.before.before in
     let m = v_sub w64 (v_num 0) (g_is b) tt in
-    let r = c.angle_units.result in
-    answer_is (v_sub w64 (v_num 0) (size_is r c.angle_units.ensures.1) tt)
-    (ap (λ n. pos 0 -ℤ pos n) (c.angle_units.ensures.0 ∙ ap (λ x. angle_units (nat_abs x)) m.is) ∙ west_is (g b) (lt_yes (g_is b) (v_num 0) c.before.if1.true))
+    let r = c.angle_units-west.result in
+    answer_is (v_sub w64 (v_num 0) (size_is r c.angle_units-west.ensures.1) tt)
+    (ap (λ n. pos 0 -ℤ pos n) (c.angle_units-west.ensures.0 ∙ ap (λ x. angle_units (nat_abs x)) m.is) ∙ west_is (g b) (lt_yes (g_is b) (v_num 0) c.if-g-lt0.true))
 
-cast_angle_units_2 : tie.Need-overflow-cast-angle-units-2
+cast_angle_units_2 : tie.Need-overflow_cast-g-2
 cast_angle_units_2 c =
-    subst (λ x. T (non_neg x) × Fits w64 (nat_abs x)) (sym (g_is c.before).is) (nonneg _ (lt_no (g_is c.before) (v_num 0) c.if1.false), word _ (omega (arith, (g_is c.before).size)))
+    subst (λ x. T (non_neg x) × Fits w64 (nat_abs x)) (sym (g_is c.before).is) (nonneg _ (lt_no (g_is c.before) (v_num 0) c.if-g-lt0.false), word _ (omega (arith, (g_is c.before).size)))
 
-angle_units_requires_2 : tie.Need-angle-units-requires-2
+angle_units_requires_2 : tie.Need-angle_units-east-requires
 angle_units_requires_2 c κs = search rules
 
-cast_result_2 : tie.Need-overflow-cast-result-2
+cast_result_2 : tie.Need-overflow_cast-result-2
 cast_result_2 c = search rules
 
-returns_2 : tie.Need-returns-2
+returns_2 : tie.Need-returns
 returns_2 c =
     let b = c.before.before in
-    let r = c.angle-units2.result in
-    answer_is (size_is r c.angle-units2.ensures.1)
-    (ap pos (c.angle-units2.ensures.0 ∙ ap (λ x. angle_units (nat_abs x)) (g_is b).is) ∙ east_is (g b) (lt_no (g_is b) (v_num 0) c.before.if1.false))
+    let r = c.angle_units-east.result in
+    answer_is (size_is r c.angle_units-east.ensures.1)
+    (ap pos (c.angle_units-east.ensures.0 ∙ ap (λ x. angle_units (nat_abs x)) (g_is b).is) ∙ east_is (g b) (lt_no (g_is b) (v_num 0) c.if-g-lt0.false))
 
 pub convergence_units_spec : {M : Type 1} → statement M
 convergence_units_spec =

@@ -27,23 +27,23 @@ module _ (sc m0 : ℕ) (h : sc ≤ 13 * S60 / 10) (k : m0 ≤ units_in_scale) wh
   small : (r : ℕ) → r ≤ (sc / P30 * m0 + sc % P30 * m0 / P30) / P30 + 1 → r ≤ 2 * 10 ^ 9
   small r g = let u = upper in let v = lower in omega arith
 
-mul_upper : tie.Need-overflow-mul-upper
+mul_upper : tie.Need-overflow_mul-upper
 mul_upper c = let u = upper _ _ c.requires.0 c.requires.1 in omega arith
 
-mul_lower : tie.Need-overflow-mul-lower
+mul_lower : tie.Need-overflow_mul-lower
 mul_lower c = let u = lower _ _ c.requires.0 c.requires.1 in omega arith
 
-add_nearest_even : tie.Need-overflow-add-nearest-even
+add_nearest_even : tie.Need-overflow_add-upper
 add_nearest_even c = let u = upper _ _ c.requires.0 c.requires.1 in let v = lower _ _ c.requires.0 c.requires.1 in omega arith
 
-nearest_even_requires : tie.Need-nearest-even-requires
+nearest_even_requires : tie.Need-nearest_even-requires
 nearest_even_requires c κs = search rules
 
 returns : tie.Need-returns
 unfolding scale_units
 returns c =
-    let a = c.before.args in
-    let p = c.before.requires in
+    let a = c.args in
+    let p = c.requires in
     (c.nearest_even.ensures.0 ∙ ap (λ n. nearest_even n P30) (divided a.sc P30 a.m0 (lit< tt)), small a.sc a.m0 p.0 p.1 c.nearest_even.result c.nearest_even.ensures.1)
 
 pub scale_units_spec : {M : Type 1} → statement M

@@ -1,5 +1,5 @@
 -- 01: "Two results allowed for one input are shown equal." Jobs that stand for one of the rules' states answer a record alike, and come to one state again
--- (`takes-alike`); and of one job and one record the contract of `Job::take` allows one result, every place of the struct (`takes_one`). So a job that stays
+-- (`takes_alike`); and of one job and one record the contract of `Job::take` allows one result, every place of the struct (`takes_one`). So a job that stays
 -- where it lies, and is answered by in_place, comes to what `Job::take` hands back (`answers-alike`, `stores-alike`). Assumes nothing.
 use Rattle.std.specs.Prelude.{◌≡◌, refl, ℤ, ℕ}
 use Rattle.std.proofs.Common.{sym, ap, ◌∙◌}

@@ -26,7 +26,7 @@ loop_holds : tie.Need-loop-rest-init invariant_loop decreases_loop
 loop_holds c = starts c.args.n (replicate 20 48) c.ranges.n.fits refl
 
 sub_at : tie.Need-overflow_sub-at invariant_loop decreases_loop
-sub_at c = above c.before.loop-rest.invariant c.loop-rest-test.true
+sub_at c = above c.loop-rest.invariant c.loop-rest-test.true
 
 cast_digits_2 : tie.Need-overflow_cast-digits-in-loop-rest invariant_loop decreases_loop
 cast_digits_2 c = search rules
@@ -38,13 +38,13 @@ array_write_digits_2 : tie.Need-bounds-digits-at invariant_loop decreases_loop
 array_write_digits_2 c = search rules
 
 loop_less : tie.Need-loop-rest-smaller invariant_loop decreases_loop
-loop_less c = let h = above c.before.loop-rest.invariant c.loop-rest-test.true in omega arith
+loop_less c = let h = above c.loop-rest.invariant c.loop-rest-test.true in omega arith
 
 loop_again : tie.Need-loop-rest-preserved invariant_loop decreases_loop
-loop_again c = turned c.before.loop-rest.at c.before.loop-rest.invariant c.loop-rest-test.true
+loop_again c = turned c.loop-rest.at c.loop-rest.invariant c.loop-rest-test.true
 
 returns : tie.Need-returns invariant_loop decreases_loop
-returns c = (c.before.loop-rest.invariant.low, c.before.loop-rest.invariant.long, ended c.before.loop-rest.at c.before.loop-rest.invariant c.loop-rest-test.false)
+returns c = (c.loop-rest.invariant.low, c.loop-rest.invariant.long, ended c.loop-rest.at c.loop-rest.invariant c.loop-rest-test.false)
 
 pub spell_spec : {M : Type 1} → statement M
 spell_spec =

@@ -14,7 +14,7 @@ metres_requires c κs = search rules
 
 returns : tie.Need-returns
 unfolding of_bits two_millionths nearest_double round
-returns c = ap (λ (x : Float). mul binary64 x two_millionths) (c.metres.ensures ∙ ap metres_of (to_z-of_z w64 c.before.args.n c.before.ranges.n))
+returns c = ap (λ (x : Float). mul binary64 x two_millionths) (c.metres.ensures ∙ ap metres_of (to_z-of_z w64 c.args.n c.ranges.n))
 
 pub argument_spec : {M : Type 1} → statement M
 argument_spec = tie.close (tie.spec metres_requires returns)

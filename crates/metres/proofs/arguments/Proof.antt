@@ -20,9 +20,9 @@ argument_requires_2 c κs = search rules
 
 returns : tie.Need-returns
 returns c =
-    let a = c.before.before.args in
-    let f = c.before.before.ranges in
-    ap₂ pair (c.before.argument.ensures ∙ ap argument_of (to_z-of_z w64 a.north f.north)) (c.argument2.ensures ∙ ap argument_of (to_z-of_z w64 a.east f.east))
+    let a = c.args in
+    let f = c.ranges in
+    ap₂ pair (c.argument.ensures ∙ ap argument_of (to_z-of_z w64 a.north f.north)) (c.argument-2.ensures ∙ ap argument_of (to_z-of_z w64 a.east f.east))
 
 pub arguments_spec : {M : Type 1} → statement M
 arguments_spec = tie.close (tie.spec argument_requires argument_requires_2 returns)

@@ -16,14 +16,14 @@ unfolding in_float
 holds (pos n) h = le→leb n (2 ^ 53) (omega arith)
 holds (negsuc n) h = lt→ltb n (2 ^ 53) (omega arith)
 
-int_to_float_result : tie.Need-int-to-float-result
+int_to_float_result : tie.Need-int_to_float-result
 int_to_float_result c =
-    let n = c.before.args.n in
-    subst (λ (z : ℤ). T (in_float binary64 z)) (sym (to_z-of_z w64 n c.before.ranges.n)) (holds n c.before.requires)
+    let n = c.args.n in
+    subst (λ (z : ℤ). T (in_float binary64 z)) (sym (to_z-of_z w64 n c.ranges.n)) (holds n c.requires)
 
 returns : tie.Need-returns
 unfolding of_bits
-returns c = ap (λ (z : ℤ). mul binary64 (of_int binary64 z) thirtieth) (to_z-of_z w64 c.before.args.n c.before.ranges.n)
+returns c = ap (λ (z : ℤ). mul binary64 (of_int binary64 z) thirtieth) (to_z-of_z w64 c.args.n c.ranges.n)
 
 pub metres_spec : {M : Type 1} → statement M
 metres_spec = tie.close (tie.spec int_to_float_result returns)

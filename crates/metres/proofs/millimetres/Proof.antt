@@ -8,31 +8,31 @@ use Rattle.metres.specs.Laws.Shortened.{missing_parts, rest_small, missing_le, a
 use Rattle.metres.proofs.millimetres.Statement.{statement}
 use Rattle.metres.proofs.millimetres.Tie as tie
 
-mul_thousands : tie.Need-overflow-mul-thousands
+mul_thousands : tie.Need-overflow_mul-thousands
 mul_thousands c = search rules
 
-mul_divisor : tie.Need-overflow-mul-divisor
+mul_divisor : tie.Need-overflow_mul-divisor
 mul_divisor c = search rules
 
-mul_less : tie.Need-overflow-mul-less
+mul_less : tie.Need-overflow_mul-less
 mul_less c = search rules
 
-sub_less : tie.Need-overflow-sub-less
+sub_less : tie.Need-overflow_sub-less
 sub_less c = search rules
 
-mul_less_2 : tie.Need-overflow-mul-less-2
+mul_less_2 : tie.Need-overflow_mul-less-2
 mul_less_2 c = omega (arith, rest_small c.args.x c.args.per, c.requires.less)
 
-add_less : tie.Need-overflow-add-less
+add_less : tie.Need-overflow_add-less
 add_less c = omega (arith, rest_small c.args.x c.args.per, c.requires.less)
 
-add_rounded : tie.Need-overflow-add-rounded
+add_rounded : tie.Need-overflow_add-thousands
 add_rounded c = search rules
 
-div_rounded : tie.Need-nonzero-div-rounded
+div_rounded : tie.Need-nonzero_div-less
 div_rounded c = search rules
 
-rem_rounded : tie.Need-nonzero-rem-rounded
+rem_rounded : tie.Need-nonzero_rem-less-2
 rem_rounded c = search rules
 
 rounded_requires : tie.Need-rounded-requires
@@ -45,7 +45,7 @@ rounded_requires c κs =
     (mod-lt m d, le_trans (le_of_eq (div-add-mod' m (k * 1048576))) (missing_le x s k c.requires.at_most), omega (arith, c.requires.less))
 
 returns : tie.Need-returns
-returns c = answer_is c.before.args.x c.before.args.short c.before.args.per c.rounded.result c.before.requires.at_most c.rounded.ensures
+returns c = answer_is c.args.x c.args.short c.args.per c.rounded.result c.requires.at_most c.rounded.ensures
 
 pub millimetres_spec : {M : Type 1} → statement M
 millimetres_spec =

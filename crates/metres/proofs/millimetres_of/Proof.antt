@@ -55,66 +55,66 @@ twenty n u h = lt_of_lt_of_le (mul-lt-mul_of_pos_right h (pow_pos 20)) (le_of_eq
 scaled_requires : tie.Need-scaled-requires
 scaled_requires c κs = (c.requires.0, omega arith, twenty (nat_abs (value c.args.p)) double_unit c.requires.1)
 
-millimetres_requires : tie.Need-millimetres-requires
-millimetres_requires c κs = subst (λ (x : ℕ). Fits x c.before.args.short c.before.args.per) (sym c.scaled.ensures) c.before.requires.2
+millimetres_requires : tie.Need-millimetres-n-requires
+millimetres_requires c κs = subst (λ (x : ℕ). Fits x c.args.short c.args.per) (sym c.scaled.ensures) c.requires.2
 
-float_to_bits_if1 : tie.Need-float-to-bits-if1
-float_to_bits_if1 c = no_nan c.before.before.args.p c.before.before.requires.0.is_finite
+float_to_bits_if1 : tie.Need-float_to_bits-p
+float_to_bits_if1 c = no_nan c.args.p c.requires.0.is_finite
 
-cast_result : tie.Need-overflow-cast-result
+cast_result : tie.Need-overflow_cast-result
 cast_result c =
     let b = c.before.before.before in
     let x = truncated 20 (value b.args.p) in
     let s = b.args.short in
     let k = b.args.per in
-    let n = c.before.millimetres.result in
-    let e : n ≡ nearest_millimetres x s k = c.before.millimetres.ensures ∙ ap (λ (i : ℕ). nearest_millimetres i s k) c.before.before.scaled.ensures in
+    let n = c.millimetres-n.result in
+    let e : n ≡ nearest_millimetres x s k = c.millimetres-n.ensures ∙ ap (λ (i : ℕ). nearest_millimetres i s k) c.scaled.ensures in
     let h = small x s k n e b.requires.2 in
     plain_fits n h
 
-sub_result : tie.Need-overflow-sub-result
+sub_result : tie.Need-overflow_sub-result
 sub_result c =
     let b = c.before.before.before in
     let x = truncated 20 (value b.args.p) in
     let s = b.args.short in
     let k = b.args.per in
-    let n = c.before.millimetres.result in
-    let e : n ≡ nearest_millimetres x s k = c.before.millimetres.ensures ∙ ap (λ (i : ℕ). nearest_millimetres i s k) c.before.before.scaled.ensures in
+    let n = c.millimetres-n.result in
+    let e : n ≡ nearest_millimetres x s k = c.millimetres-n.ensures ∙ ap (λ (i : ℕ). nearest_millimetres i s k) c.scaled.ensures in
     let h = small x s k n e b.requires.2 in
     minus_fits n h
 
-cast_result_2 : tie.Need-overflow-cast-result-2
+cast_result_2 : tie.Need-overflow_cast-result-else-p-ge9223372036854775808
 cast_result_2 c =
     let b = c.before.before.before in
     let x = truncated 20 (value b.args.p) in
     let s = b.args.short in
     let k = b.args.per in
-    let n = c.before.millimetres.result in
-    let e : n ≡ nearest_millimetres x s k = c.before.millimetres.ensures ∙ ap (λ (i : ℕ). nearest_millimetres i s k) c.before.before.scaled.ensures in
+    let n = c.millimetres-n.result in
+    let e : n ≡ nearest_millimetres x s k = c.millimetres-n.ensures ∙ ap (λ (i : ℕ). nearest_millimetres i s k) c.scaled.ensures in
     let h = small x s k n e b.requires.2 in
     plain_fits n h
 
-returns : tie.Need-returns
+returns : tie.Need-returns-then-p-ge9223372036854775808
 returns c =
     let b = c.before.before.before in
     let x = truncated 20 (value b.args.p) in
     let s = b.args.short in
     let k = b.args.per in
-    let n = c.before.millimetres.result in
-    let e : n ≡ nearest_millimetres x s k = c.before.millimetres.ensures ∙ ap (λ (i : ℕ). nearest_millimetres i s k) c.before.before.scaled.ensures in
+    let n = c.millimetres-n.result in
+    let e : n ≡ nearest_millimetres x s k = c.millimetres-n.ensures ∙ ap (λ (i : ℕ). nearest_millimetres i s k) c.scaled.ensures in
     let h = small x s k n e b.requires.2 in
-    to_z-of_z w64 (pos 0 -ℤ to_z w64 n) (minus_fits n h) ∙ minus_is n h ∙ sym (by_sign b.args.p b.requires.0 s k n b.requires.2.positive e ∙ ap (λ (t : Bool). signed t n) (is_true (sign_bit (to_bits binary64 b.args.p)) (le→leb (2 ^ 63) (to_bits binary64 b.args.p) c.if1.true)))
+    to_z-of_z w64 (pos 0 -ℤ to_z w64 n) (minus_fits n h) ∙ minus_is n h ∙ sym (by_sign b.args.p b.requires.0 s k n b.requires.2.positive e ∙ ap (λ (t : Bool). signed t n) (is_true (sign_bit (to_bits binary64 b.args.p)) (le→leb (2 ^ 63) (to_bits binary64 b.args.p) c.if-p-ge9223372036854775808.true)))
 
-returns_2 : tie.Need-returns-2
+returns_2 : tie.Need-returns-else-p-ge9223372036854775808
 returns_2 c =
     let b = c.before.before.before in
     let x = truncated 20 (value b.args.p) in
     let s = b.args.short in
     let k = b.args.per in
-    let n = c.before.millimetres.result in
-    let e : n ≡ nearest_millimetres x s k = c.before.millimetres.ensures ∙ ap (λ (i : ℕ). nearest_millimetres i s k) c.before.before.scaled.ensures in
+    let n = c.millimetres-n.result in
+    let e : n ≡ nearest_millimetres x s k = c.millimetres-n.ensures ∙ ap (λ (i : ℕ). nearest_millimetres i s k) c.scaled.ensures in
     let h = small x s k n e b.requires.2 in
-    to_z_pos w64 n h ∙ sym (by_sign b.args.p b.requires.0 s k n b.requires.2.positive e ∙ ap (λ (t : Bool). signed t n) (is_false (sign_bit (to_bits binary64 b.args.p)) (lt→nleb (2 ^ 63) (to_bits binary64 b.args.p) c.if1.false)))
+    to_z_pos w64 n h ∙ sym (by_sign b.args.p b.requires.0 s k n b.requires.2.positive e ∙ ap (λ (t : Bool). signed t n) (is_false (sign_bit (to_bits binary64 b.args.p)) (lt→nleb (2 ^ 63) (to_bits binary64 b.args.p) c.if-p-ge9223372036854775808.false)))
 
 pub millimetres_of_spec : {M : Type 1} → statement M
 millimetres_of_spec =

@@ -7,29 +7,29 @@ use Rattle.metres.specs.Laws.Nearest.{one_less, not_less, some_above, quotient_l
 use Rattle.metres.proofs.rounded.Statement.{statement}
 use Rattle.metres.proofs.rounded.Tie as tie
 
-sub_n : tie.Need-overflow-sub-n
+sub_n : tie.Need-overflow_sub-n
 sub_n c = quotient_le c.args.above c.args.q c.args.r c.args.d (omega arith) c.requires.1
 
-sub_if1 : tie.Need-overflow-sub-if1
+sub_if1 : tie.Need-overflow_sub-d
 sub_if1 c = search rules
 
-add_if1 : tie.Need-overflow-add-if1
+add_if1 : tie.Need-overflow_add-r
 add_if1 c = search rules
 
-sub_result : tie.Need-overflow-sub-result
+sub_result : tie.Need-overflow_sub-result
 sub_result c =
-    let a = c.before.args.above in let q = c.before.args.q in let r = c.before.args.r in let d = c.before.args.d in
-    some_above (a * d - (q * d + r)) (a - q) r d (missing a q r d (omega arith) c.before.requires.1) (omega arith)
+    let a = c.args.above in let q = c.args.q in let r = c.args.r in let d = c.args.d in
+    some_above (a * d - (q * d + r)) (a - q) r d (missing a q r d (omega arith) c.requires.1) (omega arith)
 
-returns : tie.Need-returns
+returns : tie.Need-returns-then-d-r
 returns c =
-    let a = c.before.args.above in let q = c.before.args.q in let r = c.before.args.r in let d = c.before.args.d in
-    sym (one_less (a * d - (q * d + r)) (a - q) r d (missing a q r d (omega arith) c.before.requires.1) c.before.requires.0 c.if1.true)
+    let a = c.args.above in let q = c.args.q in let r = c.args.r in let d = c.args.d in
+    sym (one_less (a * d - (q * d + r)) (a - q) r d (missing a q r d (omega arith) c.requires.1) c.requires.0 c.if-d-r.true)
 
-returns_2 : tie.Need-returns-2
+returns_2 : tie.Need-returns
 returns_2 c =
-    let a = c.before.args.above in let q = c.before.args.q in let r = c.before.args.r in let d = c.before.args.d in
-    sym (not_less (a * d - (q * d + r)) (a - q) r d (missing a q r d (omega arith) c.before.requires.1) c.before.requires.0 c.if1.false)
+    let a = c.args.above in let q = c.args.q in let r = c.args.r in let d = c.args.d in
+    sym (not_less (a * d - (q * d + r)) (a - q) r d (missing a q r d (omega arith) c.requires.1) c.requires.0 c.if-d-r.false)
 
 pub rounded_spec : {M : Type 1} → statement M
 rounded_spec =

@@ -34,23 +34,23 @@ lowered d u h = div_same d (2 ^ (1074 - u)) (d * 2 ^ u) (2 ^ 1074) (pow_pos (107
 nothing : (d u : ℕ) → u < 1074 → d < 2 ^ 53 → 63 < 1074 - u → 0 ≡ d * 2 ^ u / double_unit
 nothing d u h l k = sym (div-eq_of_lt (lt_of_lt_of_le l (pow_mono {i = 53} {j = 1074 - u} (omega arith)))) ∙ lowered d u h
 
-shl_result : tie.Need-overflow-shl-result
+shl_result : tie.Need-overflow_shl-result
 shl_result c = search rules
 
-returns : tie.Need-returns
-returns c = raised c.before.args.digits c.before.args.up (omega arith) c.before.requires.2
+returns : tie.Need-returns-then-up-ge1074
+returns c = raised c.args.digits c.args.up (omega arith) c.requires.2
 
-sub_down : tie.Need-overflow-sub-down
+sub_down : tie.Need-overflow_sub-down
 sub_down c = search rules
 
-returns_2 : tie.Need-returns-2
-returns_2 c = nothing c.before.before.args.digits c.before.before.args.up (omega arith) (omega arith) (omega arith)
+returns_2 : tie.Need-returns-then-down-gt63
+returns_2 c = nothing c.args.digits c.args.up (omega arith) (omega arith) (omega arith)
 
-shr_result : tie.Need-overflow-shr-result
+shr_result : tie.Need-overflow_shr-result
 shr_result c = search rules
 
-returns_3 : tie.Need-returns-3
-returns_3 c = lowered c.before.before.args.digits c.before.before.args.up (omega arith)
+returns_3 : tie.Need-returns
+returns_3 c = lowered c.args.digits c.args.up (omega arith)
 
 pub shifted_spec : {M : Type 1} → statement M
 shifted_spec = tie.close (tie.spec shl_result returns sub_down returns_2 shr_result returns_3)

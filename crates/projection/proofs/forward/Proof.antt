@@ -15,29 +15,29 @@ use Rattle.projection.proofs.forward.Lts as lts
 use Rattle.projection.proofs.forward_in.Reads as forward_in_reads
 use Rattle.systems.proofs.find_zone.Reads as find_zone_reads
 
-find_zone_requires : tie.Need-find-zone-requires
+find_zone_requires : tie.Need-find_zone-requires
 find_zone_requires c κs = search rules
 
-enum_told : tie.Need-enum-told
+enum_told : tie.Need-enum_told-1
 enum_told c = search rules
 
-enum_known_zone : tie.Need-enum-known-zone
+enum_known_zone : tie.Need-enum_known-zone
 enum_known_zone c = search rules
 
-forward_in_requires : tie.Need-forward-in-requires
-forward_in_requires c κs = subst (Found c.before.before.before.before.args.code) c.before.zone.given.1 c.before.before.before.find-zone.ensures
+forward_in_requires : tie.Need-forward_in-requires
+forward_in_requires c κs = subst (Found c.args.code) c.in-Known.is c.find_zone.ensures
 
-returns : tie.Need-returns
+returns : tie.Need-returns-in-Unknown
 returns c =
-    let b = c.before.before.before in
+    let b = c in
     banded (RightForward _ _ _) (forward_right b.args.code b.args.b b.args.l)
-    (sym (no_system b.args.code b.args.b b.args.l 1 (subst (Found b.args.code) c.enum_told.given.1 c.before.before.find-zone.ensures)))
+    (sym (no_system b.args.code b.args.b b.args.l 1 (subst (Found b.args.code) c.in-Unknown.is c.find_zone.ensures)))
 
-returns_2 : tie.Need-returns-2
+returns_2 : tie.Need-returns-in-Known
 returns_2 c =
-    let b = c.before.before.before.before.before in
+    let b = c in
     banded (RightForward _ _ _) (forward_right b.args.code b.args.b b.args.l)
-    (c.forward-in.ensures ∙ ap₂ (λ x y. worked_forward b.args.code x y) (to_z-of_z b.ranges.b) (to_z-of_z b.ranges.l))
+    (c.forward_in.ensures ∙ ap₂ (λ x y. worked_forward b.args.code x y) (to_z-of_z b.ranges.b) (to_z-of_z b.ranges.l))
 
 pub forward_spec : {M : Type 1} → statement M
 forward_spec =

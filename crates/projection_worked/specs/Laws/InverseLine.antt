@@ -41,7 +41,7 @@ part_line a e l r T U H k h is d s = le_of_mul-le-mul_right {k = H * U} (go (nat
     go : (N D R T U H k : ℕ) → N * (H * U) ≤ D + R * U → 10 ^ 7 * D ≤ T * (H * U * U) → R ≤ k * (T * (H * U)) → N * (H * U) ≤ (k + 1) * (T * U) * (H * U)
     go N D R T U H k h d s = let f = mul-le-mul_right U s in omega arith
 
--- with z's part from a length of n units of 2^-30 m: `a` is c0 + c1·n / per-one
+-- with z's part from a length of n units of 2^-30 m: `a` is c0 + c1·n / per_one
 pub part_length : (a z c0 c1 n : ℤ) (T U k : ℕ) → nat_abs (a *ℤ pos T -ℤ (c0 *ℤ pos U +ℤ z *ℤ c1)) ≤ (k + 1) * (T * U) → Close z U n per_one 1 (10 ^ 15) → nat_abs c1 ≤ 10 ^ 15 * T
     → Close a U (c0 *ℤ pos per_one +ℤ c1 *ℤ n) (T * per_one) (k + 2) 1
 part_length a z c0 c1 n T U k h g l = record { gap = go _ (nat_abs (a *ℤ pos T -ℤ (c0 *ℤ pos U +ℤ z *ℤ c1))) (nat_abs c1) (nat_abs (z *ℤ pos per_one -ℤ n *ℤ pos U)) T U per_one k sum h g.gap l }

@@ -14,13 +14,13 @@ cast_result_2 : tie.Need-overflow_cast-result-else-x-lt9223372036854775808
 cast_result_2 c = search rules
 
 sub_result : tie.Need-overflow_sub-result
-sub_result c = held _ c.before.ranges.x.fits c.if-x-lt9223372036854775808.false
+sub_result c = held _ c.ranges.x.fits c.if-x-lt9223372036854775808.false
 
 returns : tie.Need-returns-then-x-lt9223372036854775808
-returns c = low _ c.before.ranges.x.fits c.if-x-lt9223372036854775808.true
+returns c = low _ c.ranges.x.fits c.if-x-lt9223372036854775808.true
 
 returns_2 : tie.Need-returns-else-x-lt9223372036854775808
-returns_2 c = high _ c.before.ranges.x.fits c.if-x-lt9223372036854775808.false
+returns_2 c = high _ c.ranges.x.fits c.if-x-lt9223372036854775808.false
 
 pub as_signed_spec : {M : Type 1} → statement M
 as_signed_spec = tie.close (tie.spec cast_result sub_below cast_result_2 sub_result returns returns_2)

@@ -29,7 +29,7 @@ returns_5 c = rw c.if-kind-eq5.true refl
 returns_6 : tie.Need-returns
 unfolding length_of
 returns_6 c =
-    rw (no_kind _ c.before.before.before.before.if-kind-eq1.false c.before.before.before.if-kind-eq2.false c.before.before.if-kind-eq3.false c.before.if-kind-eq4.false c.if-kind-eq5.false) refl
+    rw (no_kind _ c.if-kind-eq1.false c.if-kind-eq2.false c.if-kind-eq3.false c.if-kind-eq4.false c.if-kind-eq5.false) refl
 
 pub body_length_spec : {M : Type 1} → statement M
 body_length_spec = tie.close (tie.spec returns returns_2 returns_3 returns_4 returns_5 returns_6)

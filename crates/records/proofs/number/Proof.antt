@@ -1,4 +1,5 @@
 -- `records::number` meets its contract. Assumes nothing.
+use mir.Syntax.{w64}
 use mathlib.Core.Path.{◌∙◌, ap}
 use mir.Facts.{to_z-of_z}
 use Rattle.rules.specs.JobFile.{signed}
@@ -15,8 +16,8 @@ as_signed_requires c κs = search rules
 
 returns : tie.Need-returns
 returns c =
-    to_z-of_z (record { sfits = c.as_signed.type_inv }) ∙ c.as_signed.ensures ∙ ap signed c.before.as_written.ensures
-    ∙ number_is c.before.before.before.args.at c.before.before.before.args.body.now c.before.before.before.requires
+    to_z-of_z {w = w64} (record { sfits = c.as_signed.type_inv }) ∙ c.as_signed.ensures ∙ ap signed c.as_written.ensures
+    ∙ number_is c.args.at c.args.body.now c.requires
 
 pub number_spec : {M : Type 1} → statement M
 number_spec = tie.close (tie.spec as_written_requires as_signed_requires returns)

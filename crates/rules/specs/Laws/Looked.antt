@@ -1,5 +1,5 @@
 -- 02 (vii), the pairs of edges in their order: there are n(n-1)/2 of n edges (`half`); the place of each (`place_at`); and that the places follow the order of 01, by
--- the lower edge and then by the higher (`in_order`, `only-in-order`). Assumes nothing.
+-- the lower edge and then by the higher (`in_order`, `only_in_order`). Assumes nothing.
 use Rattle.std.specs.Prelude.{◌≡◌, refl, ◌⊎◌, List, ◌++◌, ℕ, zero, suc, ◌+◌, ◌*◌, ◌-◌, ◌/◌, ◌<◌, ◌≤◌, length}
 use Rattle.std.proofs.Common.{sym, ◌∙◌, ap, ap₂, subst, inl, inr, zero-add, le_refl, add-mul, mul_comm, arith, length-append, eq-eqb, ne_eqb}
 use Rattle.std.proofs.Math.Nat.{mul-div_cancel_left}

@@ -18,7 +18,7 @@ abbrev decreases_loop : tie.decreases-loop-j
 decreases_loop out₀ at self n j₀ out j = n - j
 
 loop_holds : tie.Need-loop-j-init invariant_loop decreases_loop
-loop_holds c = (paste-zero c.args.out-1.now c.args.at c.args.t1.bytes, omega arith, refl)
+loop_holds c = (paste-zero c.args.out.now c.args.at c.args.self.bytes, omega arith, refl)
 
 element_copy_out_out : tie.Need-bounds-self-j invariant_loop decreases_loop
 element_copy_out_out c = search rules
@@ -37,15 +37,15 @@ loop_less c = search rules
 
 loop_again : tie.Need-loop-j-preserved invariant_loop decreases_loop
 loop_again c =
-    let st = c.before.before.before in
-    let lp = c.before.before.loop-j in
-    let h : lp.j < st.args.t1.count = c.before.loop-j-test.true in
-    let e : length st.args.t1.bytes ≡ 128 = search rules in (
-      ap (λ (l : List ℕ). set l (st.args.at + lp.j) (get_or st.args.t1.bytes lp.j 0)) lp.invariant.0
-          ∙ paste-suc st.args.out-1.now st.args.at st.args.t1.bytes lp.j 0 (omega arith) (omega arith)
-          ∙ ap (λ (k : ℕ). paste st.args.out-1.now st.args.at st.args.t1.bytes k) (sym (add-one lp.j)),
+    let st = c in
+    let lp = c.loop-j in
+    let h : lp.j < st.args.self.count = c.loop-j-test.true in
+    let e : length st.args.self.bytes ≡ 128 = search rules in (
+      ap (λ (l : List ℕ). set l (st.args.at + lp.j) (get_or st.args.self.bytes lp.j 0)) lp.invariant.0
+          ∙ paste-suc st.args.out.now st.args.at st.args.self.bytes lp.j 0 (omega arith) (omega arith)
+          ∙ ap (λ (k : ℕ). paste st.args.out.now st.args.at st.args.self.bytes k) (sym (add-one lp.j)),
       omega arith,
-      length-set lp.out-1 (st.args.at + lp.j) (get_or st.args.t1.bytes lp.j 0) ∙ lp.invariant.2,
+      length-set lp.out (st.args.at + lp.j) (get_or st.args.self.bytes lp.j 0) ∙ lp.invariant.2,
     )
 
 add_result : tie.Need-overflow_add-result invariant_loop decreases_loop
@@ -56,12 +56,12 @@ same_length c = search rules
 
 returns : tie.Need-returns invariant_loop decreases_loop
 returns c =
-    let st = c.before.before in
-    let e : c.before.loop-j.j ≡ st.args.t1.count = omega arith in
-    let l : length st.args.t1.bytes ≡ 128 = search rules in (
-      ap (λ (k : ℕ). st.args.at + k) (sym (length-take-le st.args.t1.count st.args.t1.bytes (let h = st.requires.0 in omega arith))),
-      c.before.loop-j.invariant.0 ∙ ap (λ (k : ℕ). paste st.args.out-1.now st.args.at st.args.t1.bytes k) e
-          ∙ copied st.args.t1 st.args.at st.args.out-1.now l st.requires.0,
+    let st = c in
+    let e : c.loop-j.j ≡ st.args.self.count = omega arith in
+    let l : length st.args.self.bytes ≡ 128 = search rules in (
+      ap (λ (k : ℕ). st.args.at + k) (sym (length-take-le st.args.self.count st.args.self.bytes (let h = st.requires.0 in omega arith))),
+      c.loop-j.invariant.0 ∙ ap (λ (k : ℕ). paste st.args.out.now st.args.at st.args.self.bytes k) e
+          ∙ copied st.args.self st.args.at st.args.out.now l st.requires.0,
     )
 
 pub put_spec : {M : Type 1} → statement M

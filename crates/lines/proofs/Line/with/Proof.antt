@@ -15,8 +15,8 @@ decreases_loop text self₀ from j₀ self j = length text - j
 
 loop_holds : tie.Need-loop-j-init invariant_loop decreases_loop
 loop_holds c =
-    let e : length c.args.t1.bytes ≡ 128 = search rules in
-    (starts c.args.text.now c.args.t1 e, refl)
+    let e : length c.args.self.bytes ≡ 128 = search rules in
+    (starts c.args.text.now c.args.self e, refl)
 
 add_at : tie.Need-overflow_add-at invariant_loop decreases_loop
 add_at c = search rules
@@ -35,17 +35,17 @@ loop_less c = search rules
 
 loop_again : tie.Need-loop-j-preserved invariant_loop decreases_loop
 loop_again c =
-    let lp = c.before.before in
-    let st = lp.before in
-    (turned st.args.text.now st.args.t1 lp.loop-j.self lp.loop-j.j lp.loop-j.invariant.0 st.requires c.before.loop-j-test.true, refl)
+    let lp = c in
+    let st = lp in
+    (turned st.args.text.now st.args.self lp.loop-j.self lp.loop-j.j lp.loop-j.invariant.0 st.requires c.loop-j-test.true, refl)
 
 add_self : tie.Need-overflow_add-self invariant_loop decreases_loop
 add_self c = search rules
 
 returns : tie.Need-returns invariant_loop decreases_loop
 returns c =
-    let st = c.before.before in
-    ended st.args.text.now st.args.t1 c.before.loop-j.self c.before.loop-j.j c.before.loop-j.invariant.0 c.loop-j-test.false
+    let st = c in
+    ended st.args.text.now st.args.self c.loop-j.self c.loop-j.j c.loop-j.invariant.0 c.loop-j-test.false
 
 pub with_spec : {M : Type 1} → statement M
 with_spec =

@@ -27,12 +27,12 @@ with_requires c κs = simp (length-take, length-drop) (omega arith)
 
 returns : tie.Need-returns
 returns c =
-    let d = c.before.before.before.before.spell-digits in
-    let e : length (drop d.result.at d.result.bytes-1) ≡ 20 - d.result.at = simp length-drop (omega arith) in
-    let w : take (20 - d.result.at) (drop d.result.at d.result.bytes-1) ≡ drop d.result.at d.result.bytes-1 =
-    take_all (20 - d.result.at) (drop d.result.at d.result.bytes-1) (omega arith) in
-    let l = subst (λ (x : List ℕ). Longer c.before.before.before.before.before.args.self x c.with.result) w c.with.ensures in
-    (omega (arith, l.counted), subst (λ (x : List ℕ). Longer c.before.before.before.before.before.args.self x c.with.result) d.ensures.2 l)
+    let d = c.spell-digits in
+    let e : length (drop d.result.at d.result.bytes) ≡ 20 - d.result.at = simp length-drop (omega arith) in
+    let w : take (20 - d.result.at) (drop d.result.at d.result.bytes) ≡ drop d.result.at d.result.bytes =
+    take_all (20 - d.result.at) (drop d.result.at d.result.bytes) (omega arith) in
+    let l = subst (λ (x : List ℕ). Longer c.args.self x c.with.result) w c.with.ensures in
+    (omega (arith, l.counted), subst (λ (x : List ℕ). Longer c.args.self x c.with.result) d.ensures.2 l)
 
 pub with_number_spec : {M : Type 1} → statement M
 with_number_spec =

@@ -6,9 +6,6 @@ use borrow.Author.Rules.{rules}
 use Rattle.lines.proofs.Line.with_whole.Statement.{statement}
 use Rattle.lines.proofs.Line.with_whole.Tie as tie
 
-slice_aggregate_with : tie.Need-slice-aggregate-with
-slice_aggregate_with c = search rules
-
 with_requires : tie.Need-with-requires
 with_requires c κs = search rules
 
@@ -20,9 +17,9 @@ with_number_requires c κs = search rules
 
 returns : tie.Need-returns-then-z-lt0
 returns c =
-    let w = c.before.before.with.ensures in (
+    let w = c.with.ensures in (
       omega (arith, w.counted),
-      longer_as (text_below _ _ c.before.before.before.before.before.ranges.z c.before.before.before.before.if-z-lt0.true c.before.size.ensures) (then w c.with_number.ensures.1),
+      longer_as (text_below _ _ c.ranges.z c.if-z-lt0.true c.size.ensures) (then w c.with_number.ensures.1),
     )
 
 size_requires_2 : tie.Need-size-requires-2
@@ -33,13 +30,12 @@ with_number_requires_2 c κs = search rules
 
 returns_2 : tie.Need-returns
 returns_2 c =
-    (omega arith, longer_as (text_above _ _ c.before.before.before.ranges.z c.before.before.if-z-lt0.false c.before.size-2.ensures) c.with_number-2.ensures.1)
+    (omega arith, longer_as (text_above _ _ c.ranges.z c.if-z-lt0.false c.size-2.ensures) c.with_number-2.ensures.1)
 
 pub with_whole_spec : {M : Type 1} → statement M
 with_whole_spec =
     tie.close
     (tie.spec
-    slice_aggregate_with
     with_requires
     size_requires
     with_number_requires

@@ -24,49 +24,49 @@ use Rattle.fixed_units.proofs.convergence_units.Reads as convergence_units_reads
 use Rattle.projection.proofs.onward.sided.Reads as sided_reads
 
 -- the angle east and on its side, as they are passed on
-module _ (c : tie.After-convergence60) where
+module _ (c : tie.After-convergence60-east) where
   abbrev west : Bool
-  west = c.before.before.args.west
+  west = c.args.west
 
   abbrev back : Bool
-  back = c.before.before.args.back
+  back = c.args.back
 
   abbrev slope : ℕ
-  slope = c.before.before.args.slope
+  slope = c.args.slope
 
   abbrev east : ℤ
-  east = convergence60 c.before.turn60.result back slope
+  east = convergence60 c.turn60-turn.result back slope
 
   east_small : nat_abs east ≤ S60 / 2
-  east_small = convergence_small c.before.turn60.result slope back c.before.turn60.ensures.1 c.before.before.requires.1
+  east_small = convergence_small c.turn60-turn.result slope back c.turn60-turn.ensures.1 c.requires.1
 
-  east_is : to_z w64 (of_z w64 c.convergence60.result) ≡ east
-  east_is = ap (λ z. to_z w64 (of_z w64 z)) c.convergence60.ensures ∙ (v_in w64 east east_small tt).is
+  east_is : to_z w64 (of_z w64 c.convergence60-east.result) ≡ east
+  east_is = ap (λ z. to_z w64 (of_z w64 z)) c.convergence60-east.ensures ∙ (v_in w64 east east_small tt).is
 
-module _ (c : tie.After-sided) where
+module _ (c : tie.After-sided-angle) where
   abbrev angle : ℤ
   angle = turned (west c.before) (east c.before)
 
   angle_small : nat_abs angle ≤ S60 / 2
   angle_small = (turned_within (west c.before) (by_abs (east c.before) (east_small c.before))).within
 
-  angle_is : to_z w64 (of_z w64 c.sided.result) ≡ angle
-  angle_is = ap (λ z. to_z w64 (of_z w64 z)) (c.sided.ensures ∙ ap (turned (west c.before)) (east_is c.before)) ∙ (v_in w64 angle angle_small tt).is
+  angle_is : to_z w64 (of_z w64 c.sided-angle.result) ≡ angle
+  angle_is = ap (λ z. to_z w64 (of_z w64 z)) (c.sided-angle.ensures ∙ ap (turned (west c.before)) (east_is c.before)) ∙ (v_in w64 angle angle_small tt).is
 
-turn60_requires : tie.Need-turn60-requires
+turn60_requires : tie.Need-turn60-turn-requires
 turn60_requires c κs = search rules
 
-convergence60_requires : tie.Need-convergence60-requires
+convergence60_requires : tie.Need-convergence60-east-requires
 convergence60_requires c κs = search rules
 
-sided_requires : tie.Need-sided-requires
+sided_requires : tie.Need-sided-angle-requires
 sided_requires c κs = subst (λ x. nat_abs x ≤ S60 / 2) (sym (east_is c)) (east_small c)
 
-convergence_units_requires : tie.Need-convergence-units-requires
+convergence_units_requires : tie.Need-convergence_units-requires
 convergence_units_requires c κs = subst (λ x. nat_abs x ≤ S60 / 2) (sym (angle_is c)) (angle_small c)
 
 returns : tie.Need-returns
-returns c = to_z-of_z (record { sfits = c.convergence_units.type-inv }) ∙ c.convergence_units.ensures.0 ∙ ap convergence_units (angle_is c.before) ∙ ap (λ t. convergence_units (turned (west c.before.before) (convergence60 t (back c.before.before) (slope c.before.before)))) c.before.before.before.turn60.ensures.0
+returns c = to_z-of_z {w = w64} (record { sfits = c.convergence_units.type_inv }) ∙ c.convergence_units.ensures.0 ∙ ap convergence_units (angle_is c.before) ∙ ap (λ t. convergence_units (turned (west c.before.before) (convergence60 t (back c.before.before) (slope c.before.before)))) c.turn60-turn.ensures.0
 
 pub convergence_of_spec : {M : Type 1} → statement M
 convergence_of_spec =

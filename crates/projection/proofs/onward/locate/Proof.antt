@@ -39,24 +39,24 @@ fits_of n l = let h = l.high in record { fits = omega arith }
 natural : (z : ℤ) (n : ℕ) → z ≡ pos n → Fits w64 n → T (non_neg z) × Fits w64 (nat_abs z)
 natural z n e f = rw e (tt, f)
 
-side_of_requires : tie.Need-side-of-requires
-side_of_requires c κs = rw (d_is c.before) c.before.requires.longitude
+side_of_requires : tie.Need-side_of-side-requires
+side_of_requires c κs = rw (d_is c.before) c.requires.longitude
 
-cast_mercator60 : tie.Need-overflow-cast-mercator60
+cast_mercator60 : tie.Need-overflow_cast-b
 cast_mercator60 c = let s = c.before.before in natural _ (nat_abs s.args.b) (b_is s ∙ (b_taken s).0) (fits_of (nat_abs s.args.b) (b_taken s).1)
 
-mercator60_requires : tie.Need-mercator60-requires
+mercator60_requires : tie.Need-mercator60-mercator-requires
 mercator60_requires c κs =
     let s = c.before.before in
     let l = (b_taken s).1 in
-    (rw (b_is s) l.low, rw (b_is s) l.high, rw (c.side_of.ensures.1 ∙ ap nat_abs (d_is s)) s.requires.longitude)
+    (rw (b_is s) l.low, rw (b_is s) l.high, rw (c.side_of-side.ensures.1 ∙ ap nat_abs (d_is s)) s.requires.longitude)
 
 returns : tie.Need-returns
 returns c =
     let s = c.before.before.before in
-    located _ (nat_abs s.args.b) c.before.side_of.result.ticks (s.args.l -ℤ s.args.zone.meridian) _ _ (b_taken s).1 s.requires.longitude
-    (c.before.side_of.ensures.0 ∙ ap below_zero (d_is s)) (c.before.side_of.ensures.1 ∙ ap nat_abs (d_is s))
-    (subst (λ z. IsMercator (which s.args.zone.krasovsky) (nat_abs z) c.before.side_of.result.ticks c.mercator60.result) (b_is s) c.mercator60.ensures.0) c.mercator60.ensures.1
+    located _ (nat_abs s.args.b) c.side_of-side.result.ticks (s.args.l -ℤ s.args.zone.meridian) _ _ (b_taken s).1 s.requires.longitude
+    (c.side_of-side.ensures.0 ∙ ap below_zero (d_is s)) (c.side_of-side.ensures.1 ∙ ap nat_abs (d_is s))
+    (subst (λ z. IsMercator (which s.args.zone.krasovsky) (nat_abs z) c.side_of-side.result.ticks c.mercator60-mercator.result) (b_is s) c.mercator60-mercator.ensures.0) c.mercator60-mercator.ensures.1
 
 pub locate_spec : {M : Type 1} → statement M
 locate_spec = tie.close (tie.spec side_of_requires cast_mercator60 mercator60_requires returns)

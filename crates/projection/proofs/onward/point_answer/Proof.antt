@@ -45,31 +45,31 @@ convergence_there {r} {west} {slope} E n d h i e f =
     ap₂ (λ w t. convergence_units (turned w (convergence60 t (below_nought h.im) slope))) e (turn_is E n (nat_abs d) i)
     ∙ ap (λ k. convergence_units (turned (below_zero d) (convergence60 (turn_of E n (nat_abs d)) (below_nought h.im) k))) f
 
-corner_of_requires : tie.Need-corner-of-requires
+corner_of_requires : tie.Need-corner_of-corner-requires
 corner_of_requires c κs = search rules
 
-slope_parts_requires : tie.Need-slope-parts-requires
+slope_parts_requires : tie.Need-slope_parts-parts-requires
 slope_parts_requires c κs = search rules
 
-scale_of_requires : tie.Need-scale-of-requires
+scale_of_requires : tie.Need-scale_of-scale-requires
 scale_of_requires c κs = search rules
 
-convergence_of_requires : tie.Need-convergence-of-requires
+convergence_of_requires : tie.Need-convergence_of-convergence-requires
 convergence_of_requires c κs = search rules
 
 returns : tie.Need-returns
 unfolding of_bits
 returns c n d at =
-    let g = c.before in
-    let v = g.before.before in
+    let g = c in
+    let v = g in
     let k = v.before.before in
-    let o = k.corner_of in
-    let a = k.before.args in
-    let f = v.before.slope-parts in
+    let o = k.corner_of-corner in
+    let a = k.args in
+    let f = v.slope_parts-parts in
     four ((v_in w64 o.result.x o.ensures.1.0 tt).is ∙ o.ensures.0.0)
     ((v_in w64 o.result.y o.ensures.1.1 tt).is ∙ o.ensures.0.1 ∙ ap (λ w. a.zone.east +ℤ turned w (scaled_part (nat_abs a.zone.millionths) (value a.p.im))) at.side)
-    (to_z-of_z (record { sfits = v.scale_of.type-inv }) ∙ v.scale_of.ensures ∙ scale_there (which a.zone.krasovsky) (nat_abs a.zone.millionths) n (nat_abs d) a.h at.is f.ensures.0.0 f.ensures.0.1)
-    (to_z-of_z (record { sfits = g.convergence_of.type-inv }) ∙ g.convergence_of.ensures ∙ convergence_there (which a.zone.krasovsky) n d a.h at.is at.side f.ensures.0.1)
+    (to_z-of_z {w = w64} (record { sfits = v.scale_of-scale.type_inv }) ∙ v.scale_of-scale.ensures ∙ scale_there (which a.zone.krasovsky) (nat_abs a.zone.millionths) n (nat_abs d) a.h at.is f.ensures.0.0 f.ensures.0.1)
+    (to_z-of_z {w = w64} (record { sfits = g.convergence_of-convergence.type_inv }) ∙ g.convergence_of-convergence.ensures ∙ convergence_there (which a.zone.krasovsky) n d a.h at.is at.side f.ensures.0.1)
 
 pub point_answer_spec : {M : Type 1} → statement M
 point_answer_spec =

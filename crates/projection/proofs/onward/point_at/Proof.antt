@@ -36,7 +36,7 @@ use Rattle.projection.proofs.onward.point_answer.Reads as point_answer_reads
 use Rattle.projection.proofs.steps.plane_pair.Reads as plane_pair_reads
 use Rattle.projection.proofs.steps.slope_pair.Reads as slope_pair_reads
 
-module _ (c : tie.After-slope-pair) where
+module _ (c : tie.After-slope_pair-h) where
   abbrev start : tie.Start
   start = c.before.before.before.before.before.before
 
@@ -50,42 +50,42 @@ module _ (c : tie.After-slope-pair) where
   d = start.args.l -ℤ zone.meridian
 
   latitude : Latitude (nat_abs b)
-  latitude = (latitude_taken b start.pre.latitude).1
+  latitude = (latitude_taken b start.requires.latitude).1
 
-  located : LocatedAt (which zone.krasovsky) (nat_abs b) d c.before.before.before.before.before.locate.result
-  located = subst₂ (λ x y. LocatedAt (which zone.krasovsky) (nat_abs x) (y -ℤ zone.meridian) c.before.before.before.before.before.locate.result) (to_z-of_z start.fits.b) (to_z-of_z start.fits.l) c.before.before.before.before.before.locate.ensures
+  located : LocatedAt (which zone.krasovsky) (nat_abs b) d c.locate-at.result
+  located = subst₂ (λ x y. LocatedAt (which zone.krasovsky) (nat_abs x) (y -ℤ zone.meridian) c.locate-at.result) (to_z-of_z start.ranges.b) (to_z-of_z start.ranges.l) c.locate-at.ensures
 
-  pair_is : c.before.before.plane_pair.result ≡ plane_pair (which zone.krasovsky) (nat_abs b) (nat_abs d)
+  pair_is : c.plane_pair-p.result ≡ plane_pair (which zone.krasovsky) (nat_abs b) (nat_abs d)
   unfolding plane_pair z_of
   pair_is =
       let m = located in
-      c.before.before.plane_pair.ensures ∙ ap₂ (λ n e. horner (doubles unit (a_coefficients (constants (which zone.krasovsky)))) (arguments_of n (pos e))) ((v_in w64 _ m.north_small tt).is ∙ m.is.is_north) m.is.is_east
+      c.plane_pair-p.ensures ∙ ap₂ (λ n e. horner (doubles unit (a_coefficients (constants (which zone.krasovsky)))) (arguments_of n (pos e))) ((v_in w64 _ m.north_small tt).is ∙ m.is.is_north) m.is.is_east
 
-  slope_is : c.slope_pair.result ≡ slope_pair (which zone.krasovsky) (nat_abs b) (nat_abs d)
+  slope_is : c.slope_pair-h.result ≡ slope_pair (which zone.krasovsky) (nat_abs b) (nat_abs d)
   unfolding slope_pair z_of
   slope_is =
       let m = located in
-      c.slope_pair.ensures ∙ ap₂ (λ n e. horner (doubles unit (derivative (a_coefficients (constants (which zone.krasovsky))))) (arguments_of n (pos e))) ((v_in w64 _ m.north_small tt).is ∙ m.is.is_north) m.is.is_east
+      c.slope_pair-h.ensures ∙ ap₂ (λ n e. horner (doubles unit (derivative (a_coefficients (constants (which zone.krasovsky))))) (arguments_of n (pos e))) ((v_in w64 _ m.north_small tt).is ∙ m.is.is_north) m.is.is_east
 
-  pair_tame : Tame c.before.before.plane_pair.result
-  pair_tame = subst Tame (sym pair_is) (plane_tame (which zone.krasovsky) (nat_abs b) (nat_abs d) latitude start.pre.longitude)
+  pair_tame : Tame c.plane_pair-p.result
+  pair_tame = subst Tame (sym pair_is) (plane_tame (which zone.krasovsky) (nat_abs b) (nat_abs d) latitude start.requires.longitude)
 
-  slope_numbers : Numbers c.slope_pair.result
-  slope_numbers = subst Numbers (sym slope_is) (slope_tame (which zone.krasovsky) (nat_abs b) (nat_abs d) latitude start.pre.longitude).numbers
+  slope_numbers : Numbers c.slope_pair-h.result
+  slope_numbers = subst Numbers (sym slope_is) (slope_tame (which zone.krasovsky) (nat_abs b) (nat_abs d) latitude start.requires.longitude).numbers
 
-  slope_sloped : Sloped c.slope_pair.result
-  slope_sloped = subst Sloped (sym slope_is) (point_sloped (which zone.krasovsky) (nat_abs b) d latitude start.pre.longitude)
+  slope_sloped : Sloped c.slope_pair-h.result
+  slope_sloped = subst Sloped (sym slope_is) (point_sloped (which zone.krasovsky) (nat_abs b) d latitude start.requires.longitude)
 
-locate_requires : tie.Need-locate-requires
+locate_requires : tie.Need-locate-at-requires
 locate_requires c κs = search rules
 
-plane_pair_requires : tie.Need-plane-pair-requires
+plane_pair_requires : tie.Need-plane_pair-p-requires
 plane_pair_requires c κs = search rules
 
-slope_pair_requires : tie.Need-slope-pair-requires
+slope_pair_requires : tie.Need-slope_pair-h-requires
 slope_pair_requires c κs = search rules
 
-point_answer_requires : tie.Need-point-answer-requires
+point_answer_requires : tie.Need-point_answer-requires
 point_answer_requires c κs = let m = located c in ((start c).requires.sized, pair_tame c, slope_numbers c, slope_sloped c, m.sphere_sizes, m.across_small)
 
 returns : tie.Need-returns
@@ -93,7 +93,7 @@ returns c s h =
     let a = c.before in
     let z = zone a in
     let l = (start a).args.l in
-    c.point-answer.ensures (nat_abs (b a)) (d a) (located a)
+    c.point_answer.ensures (nat_abs (b a)) (d a) (located a)
     ∙ four
     (ap (λ (p : Pair). z.north +ℤ scaled_part (nat_abs z.millionths) (value p.re)) (pair_is a) ∙ X_stands z s h (b a) l)
     (ap (λ (p : Pair). z.east +ℤ turned (below_zero (d a)) (scaled_part (nat_abs z.millionths) (value p.im))) (pair_is a) ∙ Y_stands z s h (b a) l)

@@ -16,32 +16,32 @@ use Rattle.fixed_scale.proofs.shape60.Reads as shape60_reads
 use Rattle.fixed_units.proofs.scale_units.Reads as scale_units_reads
 use Rattle.projection.proofs.steps.m0_units.Reads as m0_units_reads
 
-shape60_requires : tie.Need-shape60-requires
+shape60_requires : tie.Need-shape60-shape-requires
 shape60_requires c κs = search rules
 
-scale60_requires : tie.Need-scale60-requires
+scale60_requires : tie.Need-scale60-scale-requires
 scale60_requires c κs = search rules
 
-m0_units_requires : tie.Need-m0-units-requires
+m0_units_requires : tie.Need-m0_units-requires
 m0_units_requires c κs = search rules
 
-scale_units_requires : tie.Need-scale-units-requires
+scale_units_requires : tie.Need-scale_units-requires
 scale_units_requires c κs = search rules
 
-cast_result : tie.Need-overflow-cast-result
+cast_result : tie.Need-overflow_cast-result
 cast_result c = search rules
 
 returns : tie.Need-returns
 returns c =
-    let u = c.before in
-    let k = u.before.before in
-    let a = k.before.args in
+    let u = c in
+    let k = u in
+    let a = k.args in
     (word c.scale_units.result (2 * 10 ^ 9) c.scale_units.ensures.1 tt).is
     ∙ ap pos
     (c.scale_units.ensures.0
     ∙ ap₂ scale_units u.m0_units.ensures.0
-    (u.before.scale60.ensures.0
-    ∙ ap₂ (λ r q. mul60 (sphere_scale60 r a.m.sphere.k (meridian60 q a.m.sphere.t) a.m.sphere.d2 (spread60 a.m.across)) (length60 a.parts.first a.parts.slope)) k.shape60.ensures.0.1 k.shape60.ensures.0.0))
+    (u.scale60-scale.ensures.0
+    ∙ ap₂ (λ r q. mul60 (sphere_scale60 r a.m.sphere.k (meridian60 q a.m.sphere.t) a.m.sphere.d2 (spread60 a.m.across)) (length60 a.parts.first a.parts.slope)) k.shape60-shape.ensures.0.1 k.shape60-shape.ensures.0.0))
 
 pub scale_of_spec : {M : Type 1} → statement M
 scale_of_spec =

@@ -30,27 +30,27 @@ module _ (c : tie.Start) where
 word : (n : ℕ) → n ≤ 19800000000 → Fits w64 n
 word n h = record { fits = omega arith }
 
-sub_d : tie.Need-overflow-sub-d
+sub_d : tie.Need-overflow_sub-d
 sub_d c = d_fits c
 
-sub_t5 : tie.Need-overflow-sub-t5
+sub_t5 : tie.Need-overflow_sub-result
 sub_t5 c = need_sub (v_num 0) (d_is c.before) tt
 
-cast_t6 : tie.Need-overflow-cast-t6
+cast_t6 : tie.Need-overflow_cast-result
 cast_t6 c =
     let m = v_sub w64 (v_num 0) (d_is c.before) tt in
-    subst (λ x. T (non_neg x) × Fits w64 (nat_abs x)) (sym m.is) (nonneg _ (minus_nonneg (z c.before) (lt_yes (d_is c.before) (v_num 0) c.if1.true)), word _ m.size)
+    subst (λ x. T (non_neg x) × Fits w64 (nat_abs x)) (sym m.is) (nonneg _ (minus_nonneg (z c.before) (lt_yes (d_is c.before) (v_num 0) c.if-d-lt0.true)), word _ m.size)
 
-returns : tie.Need-returns
+returns : tie.Need-returns-then-d-lt0
 returns c =
     let m = v_sub w64 (v_num 0) (d_is c.before) tt in
-    (west_side (z c.before) (lt_yes (d_is c.before) (v_num 0) c.if1.true), ap nat_abs m.is ∙ minus_size (z c.before))
+    (west_side (z c.before) (lt_yes (d_is c.before) (v_num 0) c.if-d-lt0.true), ap nat_abs m.is ∙ minus_size (z c.before))
 
-cast_t7 : tie.Need-overflow-cast-t7
-cast_t7 c = subst (λ x. T (non_neg x) × Fits w64 (nat_abs x)) (sym (d_is c.before).is) (nonneg _ (lt_no (d_is c.before) (v_num 0) c.if1.false), word _ c.before.requires)
+cast_t7 : tie.Need-overflow_cast-result-2
+cast_t7 c = subst (λ x. T (non_neg x) × Fits w64 (nat_abs x)) (sym (d_is c.before).is) (nonneg _ (lt_no (d_is c.before) (v_num 0) c.if-d-lt0.false), word _ c.requires)
 
-returns_2 : tie.Need-returns-2
-returns_2 c = (east_side (z c.before) (lt_no (d_is c.before) (v_num 0) c.if1.false), ap nat_abs (d_is c.before).is)
+returns_2 : tie.Need-returns
+returns_2 c = (east_side (z c.before) (lt_no (d_is c.before) (v_num 0) c.if-d-lt0.false), ap nat_abs (d_is c.before).is)
 
 pub side_of_spec : {M : Type 1} → statement M
 side_of_spec = tie.close (tie.spec sub_d sub_t5 cast_t6 returns cast_t7 returns_2)

@@ -5,6 +5,7 @@ use lib.Dec.{leb→le}
 use lib.IntN.{ℤ, pos, negsuc, nat_abs}
 use Rattle.rules.specs.Polynomial.{double_unit}
 use lib.Signed.{◌≤ℤ◌}
+use mir.Syntax.{w64}
 use mir.Facts.{to_z-of_z}
 use Rattle.double.specs.Value.{value}
 use Rattle.metres.specs.Millimetres.{in_millimetres}
@@ -33,17 +34,17 @@ size z v h g = let m = h.millionths in millimetres_size (nat_abs z.millionths * 
     go : (M : ℕ) → M ≤ 1000000 → M * 10 ^ 18 ≤ 10 ^ 24
     go M h = omega arith
 
-shortfall_requires : tie.Need-shortfall-requires
-shortfall_requires c κs = let e = millionths_given c.before.args.zone c.before.requires.0 in (rw e (millionths_positive c.before.args.zone c.before.requires.0), rw e c.before.requires.0.millionths)
+shortfall_requires : tie.Need-shortfall-short-requires
+shortfall_requires c κs = let e = millionths_given c.args.zone c.requires.0 in (rw e (millionths_positive c.args.zone c.requires.0), rw e c.requires.0.millionths)
 
-part_millimetres_requires : tie.Need-part-millimetres-requires
-part_millimetres_requires c κs = (c.before.before.requires.1, c.before.before.requires.2, rw (c.shortfall.ensures ∙ ap (λ z. 1000000 - nat_abs z) (millionths_given c.before.before.args.zone c.before.before.requires.0)) (short c.before.before.args.zone c.before.before.requires.0))
+part_millimetres_requires : tie.Need-part_millimetres-requires
+part_millimetres_requires c κs = (c.requires.1, c.requires.2, rw (c.shortfall-short.ensures ∙ ap (λ z. 1000000 - nat_abs z) (millionths_given c.args.zone c.requires.0)) (short c.args.zone c.requires.0))
 
 returns : tie.Need-returns
 unfolding scaled_part
 returns c =
-    let b = c.before.before.before in
-    let e = to_z-of_z (record { sfits = c.part-millimetres.type-inv }) ∙ c.part-millimetres.ensures ∙ ap (λ s. in_millimetres (value b.args.p) s 1000) (c.before.shortfall.ensures ∙ ap (λ z. 1000000 - nat_abs z) (millionths_given b.args.zone b.requires.0)) in
+    let b = c in
+    let e = to_z-of_z {w = w64} (record { sfits = c.part_millimetres.type_inv }) ∙ c.part_millimetres.ensures ∙ ap (λ s. in_millimetres (value b.args.p) s 1000) (c.shortfall-short.ensures ∙ ap (λ z. 1000000 - nat_abs z) (millionths_given b.args.zone b.requires.0)) in
     (e, rw e (size b.args.zone (value b.args.p) b.requires.0 b.requires.2))
 
 pub after_scale_spec : {M : Type 1} → statement M

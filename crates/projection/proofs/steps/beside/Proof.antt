@@ -17,17 +17,17 @@ plus_side : (m : Bool) (a b : ℤ) → m ≡ false → a +ℤ b ≡ a +ℤ turne
 unfolding turned
 plus_side m a b e = ap (λ t. a +ℤ turned t b) (sym e)
 
-sub_result : tie.Need-overflow-sub-result
-sub_result c = need_sub (v_arg c.before.ranges.offset c.before.requires.0) (v_arg c.before.ranges.part c.before.requires.1) tt
+sub_result : tie.Need-overflow_sub-result
+sub_result c = need_sub (v_arg c.ranges.offset c.requires.0) (v_arg c.ranges.part c.requires.1) tt
 
-returns : tie.Need-returns
-returns c = (v_sub w64 (v_arg c.before.ranges.offset c.before.requires.0) (v_arg c.before.ranges.part c.before.requires.1) tt).is ∙ minus_side c.before.args.minus c.before.args.offset c.before.args.part c.if1.true
+returns : tie.Need-returns-then-minus
+returns c = (v_sub w64 (v_arg c.ranges.offset c.requires.0) (v_arg c.ranges.part c.requires.1) tt).is ∙ minus_side c.args.minus c.args.offset c.args.part c.if-minus.true
 
-add_result : tie.Need-overflow-add-result
-add_result c = need_add (v_arg c.before.ranges.offset c.before.requires.0) (v_arg c.before.ranges.part c.before.requires.1) tt
+add_result : tie.Need-overflow_add-result
+add_result c = need_add (v_arg c.ranges.offset c.requires.0) (v_arg c.ranges.part c.requires.1) tt
 
-returns_2 : tie.Need-returns-2
-returns_2 c = (v_add w64 (v_arg c.before.ranges.offset c.before.requires.0) (v_arg c.before.ranges.part c.before.requires.1) tt).is ∙ plus_side c.before.args.minus c.before.args.offset c.before.args.part c.if1.false
+returns_2 : tie.Need-returns
+returns_2 c = (v_add w64 (v_arg c.ranges.offset c.requires.0) (v_arg c.ranges.part c.requires.1) tt).is ∙ plus_side c.args.minus c.args.offset c.args.part c.if-minus.false
 
 pub beside_spec : {M : Type 1} → statement M
 beside_spec = tie.close (tie.spec sub_result returns add_result returns_2)

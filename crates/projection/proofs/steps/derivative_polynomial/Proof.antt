@@ -12,17 +12,17 @@ use Rattle.projection.proofs.steps.derivative_polynomial.Lts as lts
 use Rattle.double.proofs.series.derivative_grs80.Reads as derivative_grs80_reads
 use Rattle.double.proofs.series.derivative_krasovsky.Reads as derivative_krasovsky_reads
 
-derivative_krasovsky_requires : tie.Need-derivative-krasovsky-requires
+derivative_krasovsky_requires : tie.Need-derivative_krasovsky-requires
 derivative_krasovsky_requires c κs = search rules
 
-returns : tie.Need-returns
-returns c = c.derivative-krasovsky.ensures ∙ ap (λ k. horner (doubles unit (derivative (a_coefficients (constants (which k))))) c.before.before.args.z) (sym c.before.if1.true)
+returns : tie.Need-returns-then-krasovsky
+returns c = c.derivative_krasovsky.ensures ∙ ap (λ k. horner (doubles unit (derivative (a_coefficients (constants (which k))))) c.args.z) (sym c.if-krasovsky.true)
 
-derivative_grs80_requires : tie.Need-derivative-grs80-requires
+derivative_grs80_requires : tie.Need-derivative_grs80-requires
 derivative_grs80_requires c κs = search rules
 
-returns_2 : tie.Need-returns-2
-returns_2 c = c.derivative-grs80.ensures ∙ ap (λ k. horner (doubles unit (derivative (a_coefficients (constants (which k))))) c.before.before.args.z) (sym c.before.if1.false)
+returns_2 : tie.Need-returns
+returns_2 c = c.derivative_grs80.ensures ∙ ap (λ k. horner (doubles unit (derivative (a_coefficients (constants (which k))))) c.args.z) (sym c.if-krasovsky.false)
 
 pub derivative_polynomial_spec : {M : Type 1} → statement M
 derivative_polynomial_spec =

@@ -20,22 +20,22 @@ natural (negsuc k) p h = absurd p.le
 few : (k : ℕ) → k ≤ 1000000 → 1000 * k ≤ units_in_scale
 few k h = omega arith
 
-cast_result : tie.Need-overflow-cast-result
+cast_result : tie.Need-overflow_cast-result
 cast_result c =
-    let z = c.before.before.args.zone in
-    let s = c.before.before.requires in
+    let z = c.args.zone in
+    let s = c.requires in
     subst (λ x. T (non_neg x) × Fits w64 (nat_abs x)) (sym (millionths_given z s)) (natural z.millionths (millionths_positive z s) s.millionths)
 
-mul_result : tie.Need-overflow-mul-result
+mul_result : tie.Need-overflow_mul-result
 mul_result c =
-    let z = c.before.before.args.zone in
-    let s = c.before.before.requires in
+    let z = c.args.zone in
+    let s = c.requires in
     rw (millionths_given z s) (record { fits = let h = few (nat_abs z.millionths) s.millionths in omega arith })
 
 returns : tie.Need-returns
 returns c =
-    let z = c.before.before.args.zone in
-    let s = c.before.before.requires in
+    let z = c.args.zone in
+    let s = c.requires in
     let e = ap (λ x. 1000 * nat_abs x) (millionths_given z s) in
     (e, rw e (few (nat_abs z.millionths) s.millionths))
 

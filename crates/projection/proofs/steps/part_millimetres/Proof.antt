@@ -7,7 +7,7 @@ use Rattle.projection.proofs.steps.part_millimetres.Reads as reads
 use Rattle.projection.proofs.steps.part_millimetres.Lts as lts
 use Rattle.metres.proofs.millimetres_of.Reads as millimetres_of_reads
 
-millimetres_of_requires : tie.Need-millimetres-of-requires
+millimetres_of_requires : tie.Need-millimetres_of-requires
 millimetres_of_requires c κs = (c.requires.0, part_small (value c.args.p) c.requires.1, part_fits (value c.args.p) c.args.short c.requires.1 c.requires.2)
 
 returns : tie.Need-returns

@@ -31,20 +31,20 @@ north_is c = to_z-of_z c.ranges.north
 east_is : (c : tie.Start) → to_z w64 c.args.east ≡ pos c.args.east
 east_is c = to_z_pos w64 c.args.east (let h = c.requires.1 in omega arith)
 
-cast_arguments : tie.Need-overflow-cast-arguments
+cast_arguments : tie.Need-overflow_cast-east
 cast_arguments c = search rules
 
-arguments_requires : tie.Need-arguments-requires
+arguments_requires : tie.Need-arguments-z-requires
 arguments_requires c κs = (rw (north_is c) (below (nat_abs c.args.north) c.requires.0), rw (east_is c) (below c.args.east c.requires.1))
 
-derivative_polynomial_requires : tie.Need-derivative-polynomial-requires
+derivative_polynomial_requires : tie.Need-derivative_polynomial-requires
 derivative_polynomial_requires c κs = search rules
 
 returns : tie.Need-returns
 returns c =
     let b = c.before.before in
     let k = doubles unit (derivative (a_coefficients (constants (which b.args.krasovsky)))) in
-    c.derivative-polynomial.ensures ∙ ap (horner k) (c.before.arguments.ensures ∙ ap₂ arguments_of (north_is b) (east_is b))
+    c.derivative_polynomial.ensures ∙ ap (horner k) (c.arguments-z.ensures ∙ ap₂ arguments_of (north_is b) (east_is b))
 
 pub slope_pair_spec : {M : Type 1} → statement M
 slope_pair_spec =

@@ -29,20 +29,20 @@ smaller a u h = omega arith
 ratio : (a b : ℕ) → a ≤ 137 * 2 ^ 41 → 499000 * 2 ^ 41 ≤ b → 4 * a ≤ 5 * b
 ratio a b h k = omega arith
 
-scaled_requires : tie.Need-scaled-requires
+scaled_requires : tie.Need-scaled-first-requires
 scaled_requires c κs = (c.requires.0.re, lit≤ tt, small (nat_abs (value c.args.h.re)) double_unit double_unit_pos c.requires.1.first_high)
 
-scaled_requires_2 : tie.Need-scaled-requires-2
+scaled_requires_2 : tie.Need-scaled-second-requires
 scaled_requires_2 c κs = let b = c.before in (b.requires.0.im, lit≤ tt, small (nat_abs (value b.args.h.im)) double_unit double_unit_pos (smaller (nat_abs (value b.args.h.im)) double_unit b.requires.1.second_high))
 
-mul60_requires : tie.Need-mul60-requires
-mul60_requires c κs = let b = c.before.before in (rw c.before.scaled.ensures (le_trans (parted b.args.h b.requires.1).high (lit≤ tt)), lit≤ tt)
+mul60_requires : tie.Need-mul60-grain-requires
+mul60_requires c κs = let b = c.before.before in (rw c.scaled-first.ensures (le_trans (parted b.args.h b.requires.1).high (lit≤ tt)), lit≤ tt)
 
-quot60_requires : tie.Need-quot60-requires
+quot60_requires : tie.Need-quot60-slope-requires
 quot60_requires c κs =
     let b = c.before.before.before in
     let p = parted b.args.h b.requires.1 in
-    rw (c.before.before.scaled.ensures, c.before.scaled2.ensures)
+    rw (c.scaled-first.ensures, c.scaled-second.ensures)
     (le_trans (lit≤ tt) p.low, le_trans p.high (lit≤ tt), ratio (second41 b.args.h) (first41 b.args.h) p.second p.low)
 
 first_is : (h : Pair) (r a : ℕ) → r ≡ mul60 a grain → a ≡ first41 h → r ≡ first60 h
@@ -58,8 +58,8 @@ returns c =
     let b = c.before.before.before.before in
     let h = b.args.h in
     let p = parted h b.requires.1 in
-    let e : c.before.mul60.result ≡ first60 h = first_is h _ _ c.before.mul60.ensures.0 c.before.before.before.scaled.ensures in
-    let f : c.quot60.result ≡ slope60 h = slope_is h _ _ _ c.quot60.ensures.0 c.before.before.scaled2.ensures c.before.before.before.scaled.ensures in
+    let e : c.mul60-grain.result ≡ first60 h = first_is h _ _ c.mul60-grain.ensures.0 c.scaled-first.ensures in
+    let f : c.quot60-slope.result ≡ slope60 h = slope_is h _ _ _ c.quot60-slope.ensures.0 c.scaled-second.ensures c.scaled-first.ensures in
     ((e, f), (rw e (first_high_60 h p b.requires.1), rw f (slope_high h p b.requires.1)))
 
 pub slope_parts_spec : {M : Type 1} → statement M

@@ -26,33 +26,33 @@ use borrow.Author.Rules.{rules}
 use Rattle.projection_inverse.proofs.backward.answer.Statement.{statement}
 use Rattle.projection_inverse.proofs.backward.answer.Tie as tie
 
-sizes_requires : tie.Need-sizes-requires
+sizes_requires : tie.Need-sizes-t-requires
 sizes_requires c κs = search rules
 
-signed_ticks_requires : tie.Need-signed-ticks-requires
+signed_ticks_requires : tie.Need-signed_ticks-d-requires
 signed_ticks_requires c κs = search rules
 
 -- the meridian and the signed difference as they are passed on
 meridian_is : (c : tie.Start) → to_z w64 (of_z w64 c.args.zone.meridian) ≡ c.args.zone.meridian
 meridian_is c = (v_in w64 c.args.zone.meridian c.requires.0.meridian tt).is
 
-module _ (c : tie.After-signed-ticks) where
+module _ (c : tie.After-signed_ticks-d) where
   abbrev back : ℤ
-  back = turned (below_nought c.before.before.before.args.p.im) (pos c.before.before.sizes.result.difference)
+  back = turned (below_nought c.args.p.im) (pos c.sizes-t.result.difference)
 
   back_small : nat_abs back ≤ 1000000000000
-  back_small = le_trans (le_of_eq (turned_abs (below_nought c.before.before.before.args.p.im) (pos c.before.before.sizes.result.difference))) c.before.before.sizes.ensures.1.1
+  back_small = le_trans (le_of_eq (turned_abs (below_nought c.args.p.im) (pos c.sizes-t.result.difference))) c.sizes-t.ensures.1.1
 
-  back_is : to_z w64 (of_z w64 c.signed-ticks.result) ≡ back
+  back_is : to_z w64 (of_z w64 c.signed_ticks-d.result) ≡ back
   unfolding of_bits
-  back_is = ap (λ z. to_z w64 (of_z w64 z)) c.signed-ticks.ensures ∙ (v_in w64 back back_small tt).is
+  back_is = ap (λ z. to_z w64 (of_z w64 z)) c.signed_ticks-d.ensures ∙ (v_in w64 back back_small tt).is
 
-beside_meridian_requires : tie.Need-beside-meridian-requires
+beside_meridian_requires : tie.Need-beside_meridian-l-requires
 beside_meridian_requires c κs =
     let s = c.before.before.before.before in
     (subst (λ z. nat_abs z ≤ 100000000000) (sym (meridian_is s)) s.requires.0.meridian, subst (λ z. nat_abs z ≤ 1000000000000) (sym (back_is c.before)) (back_small c.before))
 
-cast_judge : tie.Need-overflow-cast-judge
+cast_judge : tie.Need-overflow_cast-t
 cast_judge c = search rules
 
 judge_requires : tie.Need-judge-requires
@@ -74,11 +74,11 @@ returns c = λ s h.
     let m = c.before.before in
     let t = m.before.before in
     let a = t.before.before.before in
-    let z = t.before.before.sizes in
+    let z = t.sizes-t in
     c.judge.ensures s h
     ∙ ap (judged s)
     (ap₂ both ((word z.result.latitude 1000000000000 z.ensures.1.0 tt).is ∙ ap pos z.ensures.0.0)
-    (to_z-of_z (record { sfits = m.beside-meridian.type-inv }) ∙ m.beside-meridian.ensures ∙ ap₂ (λ x d. x +ℤ turned a.args.west d) (meridian_is a) (back_is t ∙ ap (λ n. turned (below_nought a.args.p.im) (pos n)) z.ensures.0.1))
+    (to_z-of_z {w = w64} (record { sfits = m.beside_meridian-l.type_inv }) ∙ m.beside_meridian-l.ensures ∙ ap₂ (λ x d. x +ℤ turned a.args.west d) (meridian_is a) (back_is t ∙ ap (λ n. turned (below_nought a.args.p.im) (pos n)) z.ensures.0.1))
     ∙ stand a.args.zone s a.args.west a.args.p h)
 
 pub answer_spec : {M : Type 1} → statement M

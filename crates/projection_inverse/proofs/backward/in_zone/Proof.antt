@@ -10,27 +10,27 @@ use borrow.Author.Rules.{rules}
 use Rattle.projection_inverse.proofs.backward.in_zone.Statement.{statement}
 use Rattle.projection_inverse.proofs.backward.in_zone.Tie as tie
 
-plane_refused_requires : tie.Need-plane-refused-requires
+plane_refused_requires : tie.Need-plane_refused-requires
 plane_refused_requires c κs = search rules
 
 -- what refusal 4 said, of the numbers themselves
-said : (c : tie.After-plane-refused) (s : System) → Stands c.before.args.zone s → c.plane-refused.result ≡ plane_bad s c.before.args.x c.before.args.y
-said c s h = c.plane-refused.ensures s h ∙ ap₂ (plane_bad s) (to_z-of_z c.before.ranges.x) (to_z-of_z c.before.ranges.y)
+said : (c : tie.After-plane_refused) (s : System) → Stands c.args.zone s → c.plane_refused.result ≡ plane_bad s c.args.x c.args.y
+said c s h = c.plane_refused.ensures s h ∙ ap₂ (plane_bad s) (to_z-of_z c.ranges.x) (to_z-of_z c.ranges.y)
 
-returns : tie.Need-returns
-returns c = λ s h. let a = c.before.before in outside a.args.zone s h a.requires.0 a.args.x a.args.y (sym (said c.before s h) ∙ c.if1.true)
+returns : tie.Need-returns-then-plane_refused
+returns c = λ s h. let a = c in outside a.args.zone s h a.requires.0 a.args.x a.args.y (sym (said c.before s h) ∙ c.if-plane_refused.true)
 
-from_plane_requires : tie.Need-from-plane-requires
+from_plane_requires : tie.Need-from_plane-requires
 from_plane_requires c κs =
-    let a = c.before.before in
+    let a = c in
     subst₂ (InBox a.args.zone) (sym (to_z-of_z a.ranges.x)) (sym (to_z-of_z a.ranges.y))
-    (in_box a.args.zone a.requires.1.0 a.requires.1.1 a.requires.0 a.args.x a.args.y (sym (said c.before a.requires.1.0 a.requires.1.1) ∙ c.if1.false))
+    (in_box a.args.zone a.requires.1.0 a.requires.1.1 a.requires.0 a.args.x a.args.y (sym (said c.before a.requires.1.0 a.requires.1.1) ∙ c.if-plane_refused.false))
 
-returns_2 : tie.Need-returns-2
+returns_2 : tie.Need-returns
 returns_2 c = λ s h.
-    let e = c.before in
-    let a = e.before.before in
-    c.from-plane.ensures s h ∙ ap₂ (λ x y. judged s (worked_ticks s x y)) (to_z-of_z a.ranges.x) (to_z-of_z a.ranges.y) ∙ inside a.args.zone s h a.requires.0 a.args.x a.args.y (sym (said e.before s h) ∙ e.if1.false)
+    let e = c in
+    let a = e in
+    c.from_plane.ensures s h ∙ ap₂ (λ x y. judged s (worked_ticks s x y)) (to_z-of_z a.ranges.x) (to_z-of_z a.ranges.y) ∙ inside a.args.zone s h a.requires.0 a.args.x a.args.y (sym (said e.before.before s h) ∙ e.if-plane_refused.false)
 
 pub in_zone_spec : {M : Type 1} → statement M
 in_zone_spec = tie.close (tie.spec plane_refused_requires returns from_plane_requires returns_2)

@@ -14,35 +14,35 @@ use Rattle.projection_inverse.proofs.backward.judge.Tie as tie
 ticks : ℤ → ℤ → Answer Ticks
 ticks b l = answered (record { B = b; L = l })
 
-latitude_refused_requires : tie.Need-latitude-refused-requires
+latitude_refused_requires : tie.Need-latitude_refused-latitude-requires
 latitude_refused_requires c κs = search rules
 
-longitude_refused_requires : tie.Need-longitude-refused-requires
+longitude_refused_requires : tie.Need-longitude_refused-longitude-requires
 longitude_refused_requires c κs = search rules
 
 -- what the two tests said, of the numbers themselves
-module _ (c : tie.After-longitude-refused) where
+module _ (c : tie.After-longitude_refused-longitude) where
   abbrev start : tie.Start
   start = c.before.before
 
-  latitude_said : latitude_bad start.args.b ≡ c.before.latitude_refused.result
-  latitude_said = ap latitude_bad (sym (to_z-of_z start.fits.b)) ∙ sym c.before.latitude_refused.ensures
+  latitude_said : latitude_bad start.args.b ≡ c.latitude_refused-latitude.result
+  latitude_said = ap latitude_bad (sym (to_z-of_z start.ranges.b)) ∙ sym c.latitude_refused-latitude.ensures
 
-  longitude_said : (s : System) → Stands start.args.zone s → longitude_bad s start.args.l ≡ c.longitude_refused.result
-  longitude_said s h = ap (longitude_bad s) (sym (to_z-of_z start.fits.l)) ∙ sym (c.longitude_refused.ensures s h)
+  longitude_said : (s : System) → Stands start.args.zone s → longitude_bad s start.args.l ≡ c.longitude_refused-longitude.result
+  longitude_said s h = ap (longitude_bad s) (sym (to_z-of_z start.ranges.l)) ∙ sym (c.longitude_refused-longitude.ensures s h)
 
-returns : tie.Need-returns
-returns c = λ s h. let k = c.before in sym (judged_2 s (record { B = (start k).args.b; L = (start k).args.l }) (latitude_said k ∙ c.if1.true))
+returns : tie.Need-returns-then-latitude
+returns c = λ s h. let k = c.before in sym (judged_2 s (record { B = (start k).args.b; L = (start k).args.l }) (latitude_said k ∙ c.if-latitude.true))
 
-returns_2 : tie.Need-returns-2
-returns_2 c = λ s h. let k = c.before.before in sym (judged_3 s (record { B = (start k).args.b; L = (start k).args.l }) (latitude_said k ∙ c.before.if1.false) (longitude_said k s h ∙ c.if2.true))
+returns_2 : tie.Need-returns-then-longitude
+returns_2 c = λ s h. let k = c.before.before in sym (judged_3 s (record { B = (start k).args.b; L = (start k).args.l }) (latitude_said k ∙ c.if-latitude.false) (longitude_said k s h ∙ c.if-longitude.true))
 
-returns_3 : tie.Need-returns-3
+returns_3 : tie.Need-returns
 unfolding ticks
 returns_3 c = λ s h.
     let k = c.before.before in
     ap₂ ticks (to_z-of_z (start k).ranges.b) (to_z-of_z (start k).ranges.l)
-    ∙ sym (judged_passes s (record { B = (start k).args.b; L = (start k).args.l }) (latitude_said k ∙ c.before.if1.false) (longitude_said k s h ∙ c.if2.false))
+    ∙ sym (judged_passes s (record { B = (start k).args.b; L = (start k).args.l }) (latitude_said k ∙ c.if-latitude.false) (longitude_said k s h ∙ c.if-longitude.false))
 
 pub judge_spec : {M : Type 1} → statement M
 judge_spec =

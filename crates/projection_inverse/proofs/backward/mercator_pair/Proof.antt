@@ -26,31 +26,31 @@ below h = omega arith
 
 -- the two lengths as they are passed on
 north_high : (c : tie.After-undone) → c.undone.result ≤ 6250000 * 2 ^ 30
-north_high c = subst (λ n. n ≤ 6250000 * 2 ^ 30) (sym c.undone.ensures) (lengths c.before.requires).high
+north_high c = subst (λ n. n ≤ 6250000 * 2 ^ 30) (sym c.undone.ensures) (lengths c.requires).high
 
-north_is : (c : tie.After-centred) → Is (to_z w64 (of_z w64 c.centred.result)) (centred30 (ellipsoid_of c.before.before.args.krasovsky) (undone30 c.before.before.args.millionths c.before.before.args.north)) (485000 * 2 ^ 30)
+north_is : (c : tie.After-centred-n) → Is (to_z w64 (of_z w64 c.centred-n.result)) (centred30 (ellipsoid_of c.args.krasovsky) (undone30 c.args.millionths c.args.north)) (485000 * 2 ^ 30)
 north_is c =
-    let l = lengths c.before.before.requires in
-    subst (λ z. Is (to_z w64 (of_z w64 z)) (centred30 (ellipsoid_of c.before.before.args.krasovsky) (undone30 c.before.before.args.millionths c.before.before.args.north)) (485000 * 2 ^ 30))
-    (sym (c.centred.ensures ∙ ap (centred30 (ellipsoid_of c.before.before.args.krasovsky)) c.before.undone.ensures))
-    (v_in w64 _ (centred_small (ellipsoid_of c.before.before.args.krasovsky) l.low l.high) tt)
+    let l = lengths c.requires in
+    subst (λ z. Is (to_z w64 (of_z w64 z)) (centred30 (ellipsoid_of c.args.krasovsky) (undone30 c.args.millionths c.args.north)) (485000 * 2 ^ 30))
+    (sym (c.centred-n.ensures ∙ ap (centred30 (ellipsoid_of c.args.krasovsky)) c.undone.ensures))
+    (v_in w64 _ (centred_small (ellipsoid_of c.args.krasovsky) l.low l.high) tt)
 
-east_high : (c : tie.After-undone2) → c.undone2.result ≤ 420000 * 2 ^ 30
-east_high c = subst (λ n. n ≤ 420000 * 2 ^ 30) (sym c.undone2.ensures) (lengths c.before.before.before.requires).side
+east_high : (c : tie.After-undone-m) → c.undone-m.result ≤ 420000 * 2 ^ 30
+east_high c = subst (λ n. n ≤ 420000 * 2 ^ 30) (sym c.undone-m.ensures) (lengths c.requires).side
 
-east_is : (c : tie.After-undone2) → Is (to_z w64 c.undone2.result) (pos c.undone2.result) (420000 * 2 ^ 30)
-east_is c = word c.undone2.result (420000 * 2 ^ 30) (east_high c) tt
+east_is : (c : tie.After-undone-m) → Is (to_z w64 c.undone-m.result) (pos c.undone-m.result) (420000 * 2 ^ 30)
+east_is c = word c.undone-m.result (420000 * 2 ^ 30) (east_high c) tt
 
 undone_requires : tie.Need-undone-requires
 undone_requires c κs = search rules
 
-centred_requires : tie.Need-centred-requires
+centred_requires : tie.Need-centred-n-requires
 centred_requires c κs = north_high c
 
-undone_requires_2 : tie.Need-undone-requires-2
+undone_requires_2 : tie.Need-undone-m-requires
 undone_requires_2 c κs = search rules
 
-cast_arguments : tie.Need-overflow-cast-arguments
+cast_arguments : tie.Need-overflow_cast-m
 cast_arguments c = sfits_of (go (east_high c))
   where
     go : {n : ℕ} → n ≤ 420000 * 2 ^ 30 → n < 2 ^ 63
@@ -65,15 +65,15 @@ arguments_requires c κs =
     east : {k : ℕ} → k ≤ 420000 * 2 ^ 30 → k < 2 ^ 53
     east h = omega arith
 
-inverse_polynomial_requires : tie.Need-inverse-polynomial-requires
+inverse_polynomial_requires : tie.Need-inverse_polynomial-requires
 inverse_polynomial_requires c κs = search rules
 
 returns : tie.Need-returns
 unfolding mercator_pair
 returns c =
     let b = c.before.before in
-    let k = doubles unit (b_coefficients (constants (ellipsoid_of b.before.before.before.args.krasovsky))) in
-    c.inverse-polynomial.ensures ∙ ap (horner k) (c.before.arguments.ensures ∙ ap₂ arguments_of (north_is b.before).is ((east_is b).is ∙ ap pos b.undone2.ensures))
+    let k = doubles unit (b_coefficients (constants (ellipsoid_of b.args.krasovsky))) in
+    c.inverse_polynomial.ensures ∙ ap (horner k) (c.arguments.ensures ∙ ap₂ arguments_of (north_is b.before).is ((east_is b).is ∙ ap pos b.undone-m.ensures))
 
 pub mercator_pair_spec : {M : Type 1} → statement M
 mercator_pair_spec =

@@ -9,22 +9,22 @@ use borrow.Author.Rules.{rules}
 use Rattle.projection_inverse.proofs.backward.signed_ticks.Statement.{statement}
 use Rattle.projection_inverse.proofs.backward.signed_ticks.Tie as tie
 
-cast_result : tie.Need-overflow-cast-result
+cast_result : tie.Need-overflow_cast-result
 cast_result c = search rules
 
-sub_result : tie.Need-overflow-sub-result
-sub_result c = need_sub (v_num 0) (word c.before.args.ticks 1000000000000 c.before.requires tt) tt
+sub_result : tie.Need-overflow_sub-result
+sub_result c = need_sub (v_num 0) (word c.args.ticks 1000000000000 c.requires tt) tt
 
-returns : tie.Need-returns
+returns : tie.Need-returns-then-back
 unfolding turned
-returns c = (v_sub w64 (v_num 0) (word c.before.args.ticks 1000000000000 c.before.requires tt) tt).is ∙ +ℤ_idl (neg_ℤ (pos c.before.args.ticks)) ∙ turned_by (pos c.before.args.ticks) c.if1.true
+returns c = (v_sub w64 (v_num 0) (word c.args.ticks 1000000000000 c.requires tt) tt).is ∙ +ℤ_idl (neg_ℤ (pos c.args.ticks)) ∙ turned_by (pos c.args.ticks) c.if-back.true
 
-cast_result_2 : tie.Need-overflow-cast-result-2
+cast_result_2 : tie.Need-overflow_cast-result-2
 cast_result_2 c = search rules
 
-returns_2 : tie.Need-returns-2
+returns_2 : tie.Need-returns
 unfolding turned
-returns_2 c = (word c.before.args.ticks 1000000000000 c.before.requires tt).is ∙ turned_by (pos c.before.args.ticks) c.if1.false
+returns_2 c = (word c.args.ticks 1000000000000 c.requires tt).is ∙ turned_by (pos c.args.ticks) c.if-back.false
 
 pub signed_ticks_spec : {M : Type 1} → statement M
 signed_ticks_spec = tie.close (tie.spec cast_result sub_result returns cast_result_2 returns_2)

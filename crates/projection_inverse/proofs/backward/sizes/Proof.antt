@@ -25,30 +25,30 @@ fits v h = go (nat_abs v) double_unit h double_unit_pos
     go : (a u : ℕ) → a ≤ 8000001 * u → 0 < u → a * 2 ^ 30 < 2 ^ 64 * u
     go a u h p = omega arith
 
-scaled_requires : tie.Need-scaled-requires
+scaled_requires : tie.Need-scaled-x-requires
 scaled_requires c κs = let t = c.requires.tame in (t.numbers.re, lit≤ tt, fits (value c.args.p.re) t.first)
 
-scaled_requires_2 : tie.Need-scaled-requires-2
-scaled_requires_2 c κs = let t = c.before.requires.tame in (t.numbers.im, lit≤ tt, fits (value c.before.args.p.im) t.second)
+scaled_requires_2 : tie.Need-scaled-y-requires
+scaled_requires_2 c κs = let t = c.requires.tame in (t.numbers.im, lit≤ tt, fits (value c.args.p.im) t.second)
 
 inverse60_requires : tie.Need-inverse60-requires
 inverse60_requires c κs =
-    let p = c.before.before.requires in
-    (subst (λ n. x_low ≤ n) (sym c.before.scaled.ensures) p.low, subst (λ n. n ≤ x_high) (sym c.before.scaled.ensures) p.high, subst (λ n. n ≤ y_high) (sym c.scaled2.ensures) p.side)
+    let p = c.requires in
+    (subst (λ n. x_low ≤ n) (sym c.scaled-x.ensures) p.low, subst (λ n. n ≤ x_high) (sym c.scaled-x.ensures) p.high, subst (λ n. n ≤ y_high) (sym c.scaled-y.ensures) p.side)
 
 module _ (c : tie.After-inverse60) where
   abbrev p : Pair
-  p = c.before.before.before.args.p
+  p = c.args.p
 
   abbrev E : Ellipsoid
-  E = ellipsoid_of c.before.before.before.args.krasovsky
+  E = ellipsoid_of c.args.krasovsky
 
-  same : (f : Ellipsoid → ℕ → ℕ → ℕ) → f (ellipsoid c.before.before.before.args.krasovsky) c.before.before.scaled.result c.before.scaled2.result ≡ f E (truncated 30 (value p.re)) (truncated 30 (value p.im))
-  same f = ap (λ e. f e c.before.before.scaled.result c.before.scaled2.result) (same_ellipsoid c.before.before.before.args.krasovsky) ∙ ap₂ (f E) c.before.before.scaled.ensures c.before.scaled2.ensures
+  same : (f : Ellipsoid → ℕ → ℕ → ℕ) → f (ellipsoid c.args.krasovsky) c.scaled-x.result c.scaled-y.result ≡ f E (truncated 30 (value p.re)) (truncated 30 (value p.im))
+  same f = ap (λ e. f e c.scaled-x.result c.scaled-y.result) (same_ellipsoid c.args.krasovsky) ∙ ap₂ (f E) c.scaled-x.ensures c.scaled-y.ensures
 
 returns : tie.Need-returns
 returns c =
-    let h = c.before.before.before.requires in
+    let h = c.requires in
     let b = c.inverse60.ensures.0.0 ∙ same c latitude_ticks in
     let d = c.inverse60.ensures.0.1 ∙ same c difference_ticks in
     ((b, d), (subst (λ n. n ≤ 1000000000000) (sym b) (latitude_small (E c) h.low h.high h.side), subst (λ n. n ≤ 1000000000000) (sym d) (difference_small (E c) h.low h.high h.side)))

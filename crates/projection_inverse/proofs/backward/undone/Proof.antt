@@ -29,25 +29,25 @@ both n M h l u = sum (n * 1000 / M) (n * 1000 % M) _ (whole_small (n * 1000) M (
     sum : (q r x : ℕ) → q ≤ 10010011 → x < 1000000 * 2 ^ 30 → q * 1073741824 + x < 2 ^ 64
     sum q r x h k = omega arith
 
-mul_thousands : tie.Need-overflow-mul-thousands
+mul_thousands : tie.Need-overflow_mul-thousands
 mul_thousands c = search rules
 
-div_whole : tie.Need-nonzero-div-whole
+div_whole : tie.Need-nonzero_div-whole
 div_whole c = search rules
 
-rem_rest : tie.Need-nonzero-rem-rest
+rem_rest : tie.Need-nonzero_rem-rest
 rem_rest c = search rules
 
-mul_result : tie.Need-overflow-mul-result
+mul_result : tie.Need-overflow_mul-result
 mul_result c = record { fits = first c.args.size c.args.millionths c.requires.0 c.requires.1 }
 
-mul_result_2 : tie.Need-overflow-mul-result-2
+mul_result_2 : tie.Need-overflow_mul-result-2
 mul_result_2 c = record { fits = second c.args.size c.args.millionths c.requires.1 c.requires.2 }
 
-div_result : tie.Need-nonzero-div-result
+div_result : tie.Need-nonzero_div-result
 div_result c = search rules
 
-add_result : tie.Need-overflow-add-result
+add_result : tie.Need-overflow_add-result
 add_result c = record { fits = both c.args.size c.args.millionths c.requires.0 c.requires.1 c.requires.2 }
 
 returns : tie.Need-returns

@@ -6,7 +6,7 @@ use Rattle.records.proofs.Cursor.read.Statement.{statement}
 use Rattle.records.proofs.Cursor.read.Tie as tie
 
 returns : tie.Need-returns-then-file-at
-returns c = ends c.before.before.args.file.now c.before.before.args.self.at c.if-file-at.true
+returns c = ends c.args.file.now c.args.self.at c.if-file-at.true
 
 shared_slice_read_kind : tie.Need-bounds-file-at
 shared_slice_read_kind c = search rules
@@ -28,7 +28,7 @@ sub_if2 c = search rules
 
 returns_2 : tie.Need-returns-then-file-from
 returns_2 c =
-    cut_off c.before.before.before.before.before.before.before.before.args.file.now c.before.before.before.before.before.before.before.before.args.self.at _ c.before.before.before.before.before.before.if-file-at.false (sym c.before.before.before.before.body_length-wanted.ensures ∙ c.before.before.in-Bytes.n.1) c.if-file-from.true
+    cut_off c.args.file.now c.args.self.at _ c.if-file-at.false (sym c.body_length-wanted.ensures ∙ c.in-Bytes.is) c.if-file-from.true
 
 add_end : tie.Need-overflow_add-end
 add_end c = search rules
@@ -44,15 +44,15 @@ part_parse_end c = search rules
 
 parse_requires : tie.Need-parse-record-requires
 parse_requires c κs =
-    body_fits c.before.before.before.before.before.before.before.before.before.args.file.now c.before.before.before.before.before.before.before.before.before.args.self.at _ c.before.before.before.before.before.before.before.if-file-at.false (sym c.before.before.before.before.before.body_length-wanted.ensures ∙ c.before.before.before.in-Bytes.n.1) c.before.if-file-from.false
+    body_fits c.args.file.now c.args.self.at _ c.if-file-at.false (sym c.body_length-wanted.ensures ∙ c.in-Bytes.is) c.if-file-from.false
 
 returns_3 : tie.Need-returns-in-Unknown
 returns_3 c =
-    unknown_kind c.before.before.before.before.before.before.args.file.now c.before.before.before.before.before.before.args.self.at c.before.before.before.before.if-file-at.false (sym c.before.before.body_length-wanted.ensures ∙ c.in-Unknown.is.1)
+    unknown_kind c.args.file.now c.args.self.at c.if-file-at.false (sym c.body_length-wanted.ensures ∙ c.in-Unknown.is)
 
 returns_4 : tie.Need-returns-else-file-from
 returns_4 c =
-    whole_record c.before.before.before.before.before.before.before.before.before.before.args.file.now c.before.before.before.before.before.before.before.before.before.before.args.self.at _ _ c.before.before.before.before.before.before.before.before.if-file-at.false (sym c.before.before.before.before.before.before.body_length-wanted.ensures ∙ c.before.before.before.before.in-Bytes.n.1) c.before.before.if-file-from.false c.parse-record.ensures
+    whole_record c.args.file.now c.args.self.at _ _ c.if-file-at.false (sym c.body_length-wanted.ensures ∙ c.in-Bytes.is) c.if-file-from.false c.parse-record.ensures
 
 pub read_spec : {M : Type 1} → statement M
 read_spec =
