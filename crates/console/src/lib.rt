@@ -1,9 +1,12 @@
 // A job file from standard input, its lines to standard output: what the field program does. Input and output go in chunks of 65,536 bytes, so a file of any
 // length takes the same memory. Where nobody takes the output any more, or the input fails, it stops, and writes no last line then.
+#![tactic(auto)]
+
 ghost use Rattle.std.specs.Prelude.{◌≤◌, length};
 
 use job::run::Run;
-use libc::{STDIN_FILENO, STDOUT_FILENO};
+use std::io;
+use std::io::Read;
 
 #[derive(Clone, Copy)]
 struct Turn {
@@ -11,87 +14,73 @@ struct Turn {
     more: bool,
 }
 
-// A chunk, and what it prints: false where no more is to be read.
-fn digest(run: Run, chunk: &[u8], out: &mut [u8]) -> Turn {
+// A chunk, and what it prints: no more is to be read where a record was refused.
+fn digest(rt: &impl Print, run: Run, chunk: &[u8], out: &mut [u8]) -> io::Result<Turn> {
     let mut now = run;
     let mut at: usize = 0;
     while at < chunk.len() {
         let fed = now.feed(&chunk[at..], out);
-        let next = fed.run;
-        now = next;
-        let used = fed.used;
-        if used == 0 {
-            return Turn {
+        now = fed.run;
+        if fed.used == 0 {
+            return Ok(Turn {
                 run: now,
                 more: false,
-            };
+            });
         }
-        at += used;
-        let sent = emit(out, fed.wrote);
-        if !sent {
-            return Turn {
-                run: now,
-                more: false,
-            };
-        }
+        at += fed.used;
+        emit(rt, out, fed.wrote)?;
     }
-    let stopped = now.stopped;
-    Turn {
-        run: now,
-        more: !stopped,
-    }
+    let more = !now.stopped;
+    Ok(Turn { run: now, more })
 }
 
-fn emit(out: &[u8], count: usize) -> bool
+fn emit(rt: &impl Print, out: &[u8], count: usize) -> io::Result<()>
     requires { count ≤ length out.now }
 {
-    if count == 0 {
-        return true;
-    }
-    io::write_all(STDOUT_FILENO, &out[0..count])
+    rt.write_all(&out[..count])
 }
 
-fn end(run: Run, out: &mut [u8]) -> bool {
+fn end(rt: &impl Print, run: Run, out: &mut [u8]) -> io::Result<()> {
     let wrote = run.finish(out);
-    emit(out, wrote)
+    emit(rt, out, wrote)
 }
 
 // One read: a chunk of the file, or its end.
-fn take_turn(run: Run, input: &mut [u8], out: &mut [u8]) -> Turn {
-    let got = libc::read(STDIN_FILENO, input);
-    if got < 0 {
-        return Turn {
-            run: run,
-            more: false,
-        };
-    }
-    let count = io::count(got, input);
+fn take_turn<R: Read>(
+    rt: &impl Print,
+    source: &mut R,
+    run: Run,
+    input: &mut [u8],
+    out: &mut [u8],
+) -> io::Result<Turn> {
+    let count = source.read(input)?;
     if count == 0 {
-        end(run, out);
-        return Turn {
-            run: run,
-            more: false,
-        };
+        end(rt, run, out)?;
+        return Ok(Turn { run, more: false });
     }
-    digest(run, &input[0..count], out)
+    digest(rt, run, &input[..count], out)
 }
 
-fn process(input: &mut [u8], out: &mut [u8]) {
+fn process<R: Read>(
+    rt: &impl Print,
+    source: &mut R,
+    input: &mut [u8],
+    out: &mut [u8],
+) -> io::Result<()> {
     let mut run = Run::new();
-    let mut turns = u64::MAX;
-    while turns > 0 {
-        let turn = take_turn(run, input, out);
+    for _ in 0..u64::MAX {
+        let turn = take_turn(rt, source, run, input, out)?;
         if !turn.more {
-            return;
+            break;
         }
-        let next = turn.run;
-        run = next;
-        turns -= 1;
+        run = turn.run;
     }
+    Ok(())
 }
 
-pub fn run() {
-    let mut input = io::large_buffer();
-    let mut out = io::large_buffer();
-    process(&mut input, &mut out);
+// An `Err` says that the input could not be read or the output not written; the lines before stay printed.
+pub fn run(rt: &(impl Input + Print)) -> io::Result<()> {
+    let mut input = [0u8; 65536];
+    let mut out = [0u8; 65536];
+    process(rt, &mut rt.reader(), &mut input, &mut out)
 }

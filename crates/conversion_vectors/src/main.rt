@@ -1,29 +1,37 @@
 // Converts the rings of `stdin`, made by reference/conversion_cases.py with the lines of `stdout`, and compares every place of the output with what it has to
 // hold: one line for each case. A case is two codes, the expected refusal, the length of the list, the room of the output, the list, and the places. Before the
 // call place k holds k + 1.
+#![tactic(auto)]
+
 ghost use Rattle.std.specs.Prelude.{◌≤◌};
 
 use conversion::Verdict;
-use libc::STDIN_FILENO;
+use std::io::Read;
+use std::{fmt, io};
 
-fn put_verdict(line: &mut [u8], at: usize, verdict: Verdict) -> usize {
-    match verdict {
-        Verdict::Passed => vectors::put(line, at, b" converted"),
-        Verdict::Refused(refusal) => {
-            let after = vectors::put(line, at, b" refused ");
-            vectors::put_natural(line, after, refusal as u64)
+// What the call answers, as a line has it.
+#[derive(Clone, Copy)]
+struct Said(Verdict);
+
+impl fmt::Display for Said {
+    fn fmt<W: fmt::Write>(&self, f: &mut fmt::Formatter<W>) -> fmt::Result {
+        match self.0 {
+            Verdict::Passed => write!(f, "converted"),
+            Verdict::Refused(refusal) => write!(f, "refused {refusal}"),
         }
     }
 }
 
-fn put_case(line: &mut [u8], number: u64, verdict: Verdict, places: u64, wrong: u64) -> usize {
-    let first = vectors::put_natural(line, 0, number);
-    let second = put_verdict(line, first, verdict);
-    let third = vectors::put(line, second, b" places ");
-    let fourth = vectors::put_natural(line, third, places);
-    let fifth = vectors::put(line, fourth, b" wrong ");
-    let sixth = vectors::put_natural(line, fifth, wrong);
-    vectors::put(line, sixth, b"\n")
+// Prints the line of one case, its number first.
+fn put_case(
+    rt: &impl Print,
+    number: u64,
+    verdict: Verdict,
+    places: usize,
+    wrong: u64,
+) -> io::Result<()> {
+    let said = Said(verdict);
+    println!(rt; "{number} {said} places {places} wrong {wrong}")
 }
 
 fn held_before(k: usize) -> i64 {
@@ -35,10 +43,8 @@ fn held_before(k: usize) -> i64 {
 
 // Place k holds k + 1.
 fn fill(output: &mut [i64]) {
-    let mut k: usize = 0;
-    while k < output.len() {
-        output[k] = held_before(k);
-        k += 1;
+    for (k, place) in output.iter_mut().enumerate() {
+        *place = held_before(k);
     }
 }
 
@@ -48,22 +54,17 @@ fn one_if_other(a: i64, b: i64) -> u64
     if a == b { 0 } else { 1 }
 }
 
-// How many of the first `count` places differ.
+// How many of the first `count` places differ; 9999 where either list has fewer.
 fn differing(output: &[i64], expected: &[i64], count: usize) -> u64 {
-    let mut k: usize = 0;
     let mut wrong: u64 = 0;
-    while k < count {
-        if output.len() <= k {
-            return 9999;
-        }
-        if expected.len() <= k {
+    for k in 0..count {
+        if output.len() <= k || expected.len() <= k {
             return 9999;
         }
         if 9999 <= wrong {
             return wrong;
         }
         wrong += one_if_other(output[k], expected[k]);
-        k += 1;
     }
     wrong
 }
@@ -77,13 +78,10 @@ fn converted(
     output: &mut [i64],
     room: usize,
 ) -> Verdict {
-    if numbers.len() < count {
+    if numbers.len() < count || output.len() < room {
         return Verdict::Refused(255);
     }
-    if output.len() < room {
-        return Verdict::Refused(255);
-    }
-    conversion::convert_ring(source, target, &numbers[0..count], &mut output[0..room])
+    conversion::convert_ring(source, target, &numbers[..count], &mut output[..room])
 }
 
 fn code_of(word: u64) -> u8 {
@@ -97,34 +95,38 @@ fn length_of(word: u64) -> usize {
     word as usize
 }
 
-fn one_case(numbers: &mut [i64], output: &mut [i64], number: u64) -> bool {
-    let mut head = [0u8; 40];
-    let got = io::read_full(STDIN_FILENO, &mut head);
-    if got < 40 {
-        return false;
-    }
+// Whether there was a case, which is printed then.
+fn one_case<R: Read>(
+    rt: &impl Print,
+    input: &mut R,
+    numbers: &mut [i64],
+    output: &mut [i64],
+    number: u64,
+) -> io::Result<bool> {
+    let Some(head) = vectors::read_record::<40, R>(input)? else {
+        return Ok(false);
+    };
     let source = code_of(vectors::nth_word(&head, 0));
     let target = code_of(vectors::nth_word(&head, 1));
     let count = length_of(vectors::nth_word(&head, 3));
     let room = length_of(vectors::nth_word(&head, 4));
-    vectors::take_list(numbers, count);
+    vectors::take_list(input, numbers, count)?;
     fill(output);
     let verdict = converted(source, target, numbers, count, output, room);
-    vectors::take_list(numbers, room);
+    vectors::take_list(input, numbers, room)?;
     let wrong = differing(output, numbers, room);
-    let mut line = io::buffer();
-    let end = put_case(&mut line, number, verdict, room as u64, wrong);
-    vectors::print(&line, end)
+    put_case(rt, number, verdict, room, wrong)?;
+    Ok(true)
 }
 
-fn main() {
+fn main(rt: HostRuntime) -> io::Result<()> {
+    let mut input = rt.reader();
     let mut numbers = vectors::number_room();
     let mut output = vectors::number_room();
-    let mut number: u64 = 1;
-    while number < 1000000 {
-        if !one_case(&mut numbers, &mut output, number) {
-            return;
+    for number in 1..1000000u64 {
+        if !one_case(&rt, &mut input, &mut numbers, &mut output, number)? {
+            break;
         }
-        number += 1;
     }
+    Ok(())
 }

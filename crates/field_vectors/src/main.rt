@@ -1,10 +1,13 @@
 // Runs the field calls over the cases of `stdin`, made by reference/field_cases.py with the lines of `stdout`: one line for each case, with what each of the
 // three calls answers. A case is the number of rings, the corner count of each, the length of a list of numbers, a point's X and Y, and the list; -1 rings
 // stands for the field of the case before, and the point follows at once.
-ghost use Rattle.std.specs.Prelude.{length, ◌≡◌};
+#![tactic(auto)]
+
+ghost use Rattle.std.specs.Prelude.{length, max, ◌≡◌, ◌≤◌, IfOk};
 
 use fields::{FieldAnswer, FieldNozzle};
-use libc::STDIN_FILENO;
+use std::io::Read;
+use std::{fmt, io};
 
 // The most rings and numbers that a case may have, and how many numbers are read at a time: `vectors` has room for those of one ring.
 const MOST_RINGS: u64 = 32;
@@ -25,74 +28,54 @@ fn number_room() -> [i64; 8192]
     [0; 8192]
 }
 
-// The refusal 9: the ring, its two edges, and how many pairs of edges of it were looked at.
-fn put_crossed(line: &mut [u8], at: usize, ring: u64, low: u64, high: u64, looked: u64) -> usize {
-    let first = vectors::put(line, at, b"9 ");
-    let second = vectors::put_natural(line, first, ring);
-    let third = put_next(line, second, low);
-    let fourth = put_next(line, third, high);
-    put_next(line, fourth, looked)
-}
+// What a call answers, as a line has it. The refusal 9 has the ring, its two edges, and how many pairs of edges of it were looked at.
+#[derive(Clone, Copy)]
+struct Answer(FieldAnswer);
 
-fn put_next(line: &mut [u8], at: usize, number: u64) -> usize {
-    let after = vectors::put(line, at, b" ");
-    vectors::put_natural(line, after, number)
-}
+#[derive(Clone, Copy)]
+struct Nozzle(FieldNozzle);
 
-fn put_answer(line: &mut [u8], at: usize, answer: FieldAnswer) -> usize {
-    match answer {
-        FieldAnswer::Accepted => vectors::put(line, at, b"ok"),
-        FieldAnswer::Crossed(ring, low, high, looked) => put_crossed(
-            line, at, ring, low, high, looked,
-        ),
-        FieldAnswer::Refused(refusal) => vectors::put_natural(line, at, refusal as u64),
+impl fmt::Display for Answer {
+    fn fmt<W: fmt::Write>(&self, f: &mut fmt::Formatter<W>) -> fmt::Result {
+        match self.0 {
+            FieldAnswer::Accepted => write!(f, "ok"),
+            FieldAnswer::Crossed(ring, low, high, looked) => write!(
+                f,
+                "9 {ring} {low} {high} {looked}"
+            ),
+            FieldAnswer::Refused(refusal) => write!(f, "{refusal}"),
+        }
     }
 }
 
-fn put_nozzle(line: &mut [u8], at: usize, answer: FieldNozzle) -> usize {
-    match answer {
-        FieldNozzle::Open => vectors::put(line, at, b"open"),
-        FieldNozzle::Border => vectors::put(line, at, b"border"),
-        FieldNozzle::Shut => vectors::put(line, at, b"shut"),
-        FieldNozzle::Crossed(ring, low, high, looked) => put_crossed(
-            line, at, ring, low, high, looked,
-        ),
-        FieldNozzle::Refused(refusal) => vectors::put_natural(line, at, refusal as u64),
+impl fmt::Display for Nozzle {
+    fn fmt<W: fmt::Write>(&self, f: &mut fmt::Formatter<W>) -> fmt::Result {
+        match self.0 {
+            FieldNozzle::Open => write!(f, "open"),
+            FieldNozzle::Border => write!(f, "border"),
+            FieldNozzle::Shut => write!(f, "shut"),
+            FieldNozzle::Crossed(ring, low, high, looked) => write!(
+                f,
+                "9 {ring} {low} {high} {looked}"
+            ),
+            FieldNozzle::Refused(refusal) => write!(f, "{refusal}"),
+        }
     }
 }
 
-fn put_accept(line: &mut [u8], at: usize, counts: &[u32], corners: &[i64]) -> usize {
-    let after = vectors::put(line, at, b" accept ");
-    put_answer(line, after, fields::accept(counts, corners))
-}
-
-fn put_places(
-    line: &mut [u8],
-    at: usize,
-    counts: &[u32],
-    corners: &[i64],
-    x: i64,
-    y: i64,
-) -> usize {
-    let first = vectors::put(line, at, b" nozzle ");
-    let between = put_nozzle(line, first, fields::nozzle(counts, corners, x, y));
-    let second = vectors::put(line, between, b" position ");
-    put_nozzle(line, second, fields::position(counts, corners, x, y))
-}
-
-// The line of one case, its number first.
+// Prints the line of one case, its number first.
 fn put_case(
-    line: &mut [u8],
+    rt: &impl Print,
     number: u64,
     counts: &[u32],
     corners: &[i64],
     x: i64,
     y: i64,
-) -> usize {
-    let first = vectors::put_natural(line, 0, number);
-    let second = put_accept(line, first, counts, corners);
-    let last = put_places(line, second, counts, corners, x, y);
-    vectors::put(line, last, b"\n")
+) -> io::Result<()> {
+    let accept = Answer(fields::accept(counts, corners));
+    let nozzle = Nozzle(fields::nozzle(counts, corners, x, y));
+    let position = Nozzle(fields::position(counts, corners, x, y));
+    println!(rt; "{number} accept {accept} nozzle {nozzle} position {position}")
 }
 
 // A count, which the makers keep below 2^32.
@@ -100,188 +83,153 @@ fn count_of(word: u64) -> u32 {
     (word % 4294967296) as u32
 }
 
-// Lays out the counts that were read, and answers how many there are.
-fn spread(counts: &mut [u32], bytes: &[u8; 256], rings: usize) -> usize {
-    let mut k: usize = 0;
-    while k < rings {
-        if counts.len() <= k {
-            return k;
+// Lays out the first `rings` counts that were read, and answers how many of them there is room for.
+fn spread(counts: &mut [u32], bytes: &[u8], rings: usize) -> usize {
+    let mut spread = 0;
+    for (k, count) in counts.iter_mut().enumerate() {
+        if rings <= k {
+            break;
         }
-        counts[k] = count_of(vectors::nth_word(bytes, k));
-        k += 1;
+        *count = count_of(vectors::nth_word(bytes, k));
+        spread = k + 1;
     }
-    k
+    spread
 }
 
 // Reads the counts of so many rings, and answers how many there were: none where the rings are past the room.
-fn take_counts(counts: &mut [u32], said: u64) -> usize {
+fn take_counts<R: Read>(input: &mut R, counts: &mut [u32], said: u64) -> io::Result<usize> {
     if MOST_RINGS < said {
-        return 0;
+        return Ok(0);
     }
     let mut bytes = [0u8; 256];
     let size = (said as usize) * 8;
-    let got = io::read_full(STDIN_FILENO, &mut bytes[0..size]);
-    spread(counts, &bytes, got / 8)
+    let got = vectors::read_full(input, &mut bytes[..size])?;
+    Ok(spread(counts, &bytes, got / 8))
 }
 
 // How many numbers the next piece of a list of `count` has, behind the first `at`.
 fn piece_of(at: usize, count: usize) -> usize {
-    if count <= at {
-        return 0;
-    }
-    let left = count - at;
-    if PIECE < left {
-        return PIECE;
-    }
-    left
+    count.saturating_sub(at).min(PIECE)
 }
 
-// Reads that piece into its place, and answers how many of the list are there then. No piece is longer than asked for, and none is taken past the room.
-fn take_piece(numbers: &mut [i64], at: usize, count: usize) -> usize {
-    if 8192 < at {
-        return at;
-    }
+// Reads that piece into its place, and answers how many of the list are there then. None is taken past the room.
+fn take_piece<R: Read>(
+    input: &mut R,
+    numbers: &mut [i64],
+    at: usize,
+    count: usize,
+) -> io::Result<usize>
+    ensures { IfOk result (λ n. n ≤ max at (length numbers.new)) }
+{
     if numbers.len() < at {
-        return at;
+        return Ok(at);
     }
-    let got = vectors::take_list(&mut numbers[at..], piece_of(at, count));
-    if PIECE < got {
-        return at;
-    }
-    at + got
+    let got = vectors::take_list(input, &mut numbers[at..], piece_of(at, count))?;
+    Ok(at + got)
 }
 
 // Reads a list of numbers, and answers how many there were: none where the list is past the room.
-fn take_numbers(numbers: &mut [i64], said: u64) -> usize {
+fn take_numbers<R: Read>(input: &mut R, numbers: &mut [i64], said: u64) -> io::Result<usize> {
     if MOST_NUMBERS < said {
-        return 0;
+        return Ok(0);
     }
     let count = said as usize;
-    let first = take_piece(numbers, 0, count);
-    let second = take_piece(numbers, first, count);
-    let third = take_piece(numbers, second, count);
-    take_piece(numbers, third, count)
+    let first = take_piece(input, numbers, 0, count)?;
+    let second = take_piece(input, numbers, first, count)?;
+    let third = take_piece(input, numbers, second, count)?;
+    take_piece(input, numbers, third, count)
 }
 
-// How many rings and numbers the field of the case has, for a case that goes on with it, and whether there may be one.
+// How many rings and numbers the field of a case has, for a case that goes on with it.
 #[derive(Clone, Copy)]
 struct Turn {
     rings: usize,
     count: usize,
-    more: bool,
 }
 
-fn no_more() -> Turn {
-    Turn {
-        rings: 0,
-        count: 0,
-        more: false,
-    }
-}
-
+// Prints the case at a point, and answers its field; `None` where that is past the room.
 fn print_case(
+    rt: &impl Print,
     counts: &[u32],
     numbers: &[i64],
     number: u64,
-    rings: usize,
-    count: usize,
+    turn: Turn,
     x: i64,
     y: i64,
-) -> Turn {
-    if counts.len() < rings {
-        return no_more();
+) -> io::Result<Option<Turn>> {
+    let Turn { rings, count } = turn;
+    if counts.len() < rings || numbers.len() < count {
+        return Ok(None);
     }
-    if numbers.len() < count {
-        return no_more();
-    }
-    let mut line = io::buffer();
-    let end = put_case(
-        &mut line,
-        number,
-        &counts[0..rings],
-        &numbers[0..count],
-        x,
-        y,
-    );
-    let more = vectors::print(&line, end);
-    Turn {
-        rings: rings,
-        count: count,
-        more: more,
-    }
+    put_case(rt, number, &counts[..rings], &numbers[..count], x, y)?;
+    Ok(Some(turn))
 }
 
 // A case with a field of its own.
-fn new_field(counts: &mut [u32], numbers: &mut [i64], number: u64, said: u64) -> Turn {
-    let rings = take_counts(counts, said);
-    let mut head = [0u8; 24];
-    let got = io::read_full(STDIN_FILENO, &mut head);
-    if got < 24 {
-        return no_more();
-    }
-    let count = take_numbers(numbers, vectors::nth_word(&head, 0));
-    print_case(
-        counts,
-        numbers,
-        number,
-        rings,
-        count,
-        vectors::nth_number(&head, 1),
-        vectors::nth_number(&head, 2),
-    )
-}
-
-// A case with the field of the one before.
-fn same_field(counts: &[u32], numbers: &[i64], number: u64, rings: usize, count: usize) -> Turn {
-    let mut point = [0u8; 16];
-    let got = io::read_full(STDIN_FILENO, &mut point);
-    if got < 16 {
-        return no_more();
-    }
-    print_case(
-        counts,
-        numbers,
-        number,
-        rings,
-        count,
-        vectors::nth_number(&point, 0),
-        vectors::nth_number(&point, 1),
-    )
-}
-
-// -1 is the largest word.
-fn one_case(
+fn new_field<R: Read>(
+    rt: &impl Print,
+    input: &mut R,
     counts: &mut [u32],
     numbers: &mut [i64],
     number: u64,
-    rings: usize,
-    count: usize,
-) -> Turn {
-    let mut word = [0u8; 8];
-    let got = io::read_full(STDIN_FILENO, &mut word);
-    if got < 8 {
-        return no_more();
-    }
-    let said = vectors::nth_word(&word, 0);
-    if MOST_RINGS < said {
-        return same_field(counts, numbers, number, rings, count);
-    }
-    new_field(counts, numbers, number, said)
+    said: u64,
+) -> io::Result<Option<Turn>> {
+    let rings = take_counts(input, counts, said)?;
+    let Some(head) = vectors::read_record::<24, R>(input)? else {
+        return Ok(None);
+    };
+    let count = take_numbers(input, numbers, vectors::nth_word(&head, 0))?;
+    let x = vectors::nth_number(&head, 1);
+    let y = vectors::nth_number(&head, 2);
+    print_case(rt, counts, numbers, number, Turn { rings, count }, x, y)
 }
 
-fn main() {
+// A case with the field of the one before.
+fn same_field<R: Read>(
+    rt: &impl Print,
+    input: &mut R,
+    counts: &[u32],
+    numbers: &[i64],
+    number: u64,
+    before: Turn,
+) -> io::Result<Option<Turn>> {
+    let Some(point) = vectors::read_record::<16, R>(input)? else {
+        return Ok(None);
+    };
+    let x = vectors::nth_number(&point, 0);
+    let y = vectors::nth_number(&point, 1);
+    print_case(rt, counts, numbers, number, before, x, y)
+}
+
+// The field of the next case, or `None` where the input ends. -1 is the largest word.
+fn one_case<R: Read>(
+    rt: &impl Print,
+    input: &mut R,
+    counts: &mut [u32],
+    numbers: &mut [i64],
+    number: u64,
+    before: Turn,
+) -> io::Result<Option<Turn>> {
+    let Some(word) = vectors::read_record::<8, R>(input)? else {
+        return Ok(None);
+    };
+    let said = vectors::nth_word(&word, 0);
+    if MOST_RINGS < said {
+        return same_field(rt, input, counts, numbers, number, before);
+    }
+    new_field(rt, input, counts, numbers, number, said)
+}
+
+fn main(rt: HostRuntime) -> io::Result<()> {
+    let mut input = rt.reader();
     let mut counts = count_room();
     let mut numbers = number_room();
-    let mut number: u64 = 1;
-    let mut rings: usize = 0;
-    let mut count: usize = 0;
-    while number < 1000000 {
-        let turn = one_case(&mut counts, &mut numbers, number, rings, count);
-        if !turn.more {
-            return;
+    let mut turn = Turn { rings: 0, count: 0 };
+    for number in 1..1000000u64 {
+        match one_case(&rt, &mut input, &mut counts, &mut numbers, number, turn)? {
+            Some(next) => turn = next,
+            None => break,
         }
-        rings = turn.rings;
-        count = turn.count;
-        number += 1;
     }
+    Ok(())
 }

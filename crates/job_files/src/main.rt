@@ -1,113 +1,92 @@
 // Runs the job library over each file that an argument names, and prints the file's name and then what the job writes. The files and the outputs are made by
 // reference/job_cases.py. Each file is read in chunks of another size, from 1 to 512 bytes, so that records are cut at every place.
+#![tactic(auto)]
+
 use job::run::Run;
-use libc::STDOUT_FILENO;
+use std::io::Read;
+use std::rt::Files;
+use std::{fs, io};
 
 // Feeds a chunk, as often as the output is full, and prints the lines.
-fn feed_chunk(start: Run, chunk: &[u8], out: &mut [u8]) -> Run {
+fn feed_chunk(rt: &impl Print, start: Run, chunk: &[u8], out: &mut [u8]) -> io::Result<Run> {
     let mut run = start;
     let mut at: usize = 0;
     while at < chunk.len() {
         let fed = run.feed(&chunk[at..], out);
-        let next = fed.run;
-        let used = fed.used;
-        vectors::print(out, fed.wrote);
-        run = next;
-        if used == 0 {
-            return run;
+        run = fed.run;
+        rt.write_all(&out[..fed.wrote])?;
+        if fed.used == 0 {
+            break;
         }
-        if chunk.len() - at < used {
-            return run;
-        }
-        at += used;
+        at += fed.used;
     }
-    run
+    Ok(run)
 }
 
-fn feed_first(run: Run, bytes: &[u8], count: usize, out: &mut [u8]) -> Run {
-    if bytes.len() < count {
-        return run;
-    }
-    feed_chunk(run, &bytes[0..count], out)
-}
-
-#[derive(Clone, Copy)]
-struct Turn {
+// The run with the next chunk of the file, or `None` where the file ends.
+fn one_chunk<F: Read>(
+    rt: &impl Print,
+    file: &mut F,
     run: Run,
-    more: bool,
-}
-
-fn one_chunk(file: i32, run: Run, bytes: &mut [u8], size: usize, out: &mut [u8]) -> Turn {
-    if bytes.len() < size {
-        return Turn {
-            run: run,
-            more: false,
-        };
-    }
-    let got = io::read_full(file, &mut bytes[0..size]);
+    bytes: &mut [u8],
+    out: &mut [u8],
+) -> io::Result<Option<Run>> {
+    let got = vectors::read_full(file, bytes)?;
     if got == 0 {
-        return Turn {
-            run: run,
-            more: false,
-        };
+        return Ok(None);
     }
-    Turn {
-        run: feed_first(run, bytes, got, out),
-        more: true,
-    }
+    Ok(Some(feed_chunk(rt, run, &bytes[..got], out)?))
 }
 
-fn feed_file(file: i32, bytes: &mut [u8], size: usize, out: &mut [u8]) -> Run {
+// Reads the file in chunks of the length of `bytes`.
+fn feed_file<F: Read>(
+    rt: &impl Print,
+    file: &mut F,
+    bytes: &mut [u8],
+    out: &mut [u8],
+) -> io::Result<Run> {
     let mut run = Run::new();
-    let mut turns: u64 = 0;
-    while turns < 1000000 {
-        let turn = one_chunk(file, run, bytes, size, out);
-        let next = turn.run;
-        run = next;
-        if !turn.more {
-            return run;
+    for _ in 0..1000000u64 {
+        match one_chunk(rt, file, run, bytes, out)? {
+            Some(next) => run = next,
+            None => break,
         }
-        turns += 1;
     }
-    run
+    Ok(run)
 }
 
-fn run_file(file: i32, bytes: &mut [u8], size: usize, out: &mut [u8]) {
-    let run = feed_file(file, bytes, size, out);
+fn run_file<F: Read>(
+    rt: &impl Print,
+    file: &mut F,
+    bytes: &mut [u8],
+    out: &mut [u8],
+) -> io::Result<()> {
+    let run = feed_file(rt, file, bytes, out)?;
     let end = run.finish(out);
-    vectors::print(out, end);
+    rt.write_all(&out[..end])
 }
 
-fn one_file(name: &[u8], size: usize) {
-    let file = os::open_read(name);
-    if file < 0 {
-        return;
-    }
-    let mut bytes = io::buffer();
-    let mut out = io::buffer();
-    run_file(file, &mut bytes, size, &mut out);
-    libc::close(file);
+// The file of the k-th argument; one that cannot be opened prints no more than its name.
+fn one_file(rt: &(impl Files + Print), name: &str, k: usize) -> io::Result<()> {
+    let Ok(mut file) = fs::open(rt, name) else {
+        return Ok(());
+    };
+    let mut bytes = [0u8; 512];
+    let mut out = [0u8; 4096];
+    run_file(rt, &mut file, &mut bytes[..1 + k % 512], &mut out)
 }
 
-fn one_argument(k: usize) -> bool {
-    let mut path = io::buffer();
-    let length = os::arg(k, &mut path);
-    if os::errno() != 0 {
-        return false;
-    }
-    io::write_all(STDOUT_FILENO, b"job ");
-    io::write_all(STDOUT_FILENO, &path[..length]);
-    io::write_all(STDOUT_FILENO, b"\n");
-    one_file(&path[..length], 1 + k % 512);
-    true
+fn one_argument(rt: &(impl Files + Print), k: usize, name: &str) -> io::Result<()> {
+    println!(rt; "job {name}")?;
+    one_file(rt, name, k)
 }
 
-fn main() {
-    let mut k: usize = 1;
-    while k < 10000 {
-        if !one_argument(k) {
-            return;
+fn main(rt: HostRuntime) -> io::Result<()> {
+    for (k, name) in std::env::args(&rt)?.enumerate() {
+        if k == 0 {
+            continue;
         }
-        k += 1;
+        one_argument(&rt, k, name.as_str())?;
     }
+    Ok(())
 }

@@ -1,7 +1,10 @@
 // Holds `conversion::plane_to_plane` to true values: reads the records of `stdin`, made by reference/point_cases.py with the lines of `stdout`, and prints one line
 // for each source code: how many points were answered, lie outside the band or were refused, and the largest distances in thousandths of a unit.
-use libc::STDIN_FILENO;
+#![tactic(auto)]
+
 use projection::PlaneAnswer;
+use std::io;
+use std::io::Read;
 use vectors::{Groups, Outcome};
 
 fn outcome_of(record: &[u8]) -> Outcome {
@@ -17,38 +20,27 @@ fn outcome_of(record: &[u8]) -> Outcome {
     }
 }
 
-#[derive(Clone, Copy)]
-struct Turn {
+// The run with the next record, or `None` where the input ends.
+fn one_record<R: Read>(
+    rt: &impl Print,
+    input: &mut R,
     groups: Groups,
-    more: bool,
-}
-
-fn one_record(groups: Groups) -> Turn {
-    let mut record = [0u8; 64];
-    let got = io::read_full(STDIN_FILENO, &mut record);
-    if got < 64 {
-        return Turn {
-            groups: groups,
-            more: false,
-        };
-    }
+) -> io::Result<Option<Groups>> {
+    let Some(record) = vectors::read_record::<64, R>(input)? else {
+        return Ok(None);
+    };
     let outcome = outcome_of(&record);
-    Turn {
-        groups: groups.with(b"plane", &record, outcome),
-        more: true,
-    }
+    Ok(Some(groups.with(rt, "plane", &record, outcome)?))
 }
 
-fn main() {
+fn main(rt: HostRuntime) -> io::Result<()> {
+    let mut input = rt.reader();
     let mut groups = Groups::new(vectors::PLANE_BAND);
-    let mut turns: u64 = 0;
-    while turns < 1000000 {
-        let turn = one_record(groups);
-        groups = turn.groups;
-        if !turn.more {
-            groups.close(b"plane");
-            return;
+    for _ in 0..1000000u64 {
+        match one_record(&rt, &mut input, groups)? {
+            Some(more) => groups = more,
+            None => return groups.close(&rt, "plane"),
         }
-        turns += 1;
     }
+    Ok(())
 }

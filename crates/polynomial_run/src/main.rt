@@ -1,27 +1,22 @@
 // Runs the polynomials at the points of standard input and prints, for each table, the largest error of the first and of the second part in 10^-15 m against the exact
 // values that stand beside the points. A record is five numbers of 8 bytes, little-endian: the table, the two parts in multiples of 2^-30 m plus 2^50, and the exact
 // first and second part of the value in multiples of 2^-40 m plus 2^63; but a derivative's second part, which is small and nearer, in multiples of 2^-50 m plus 2^63.
+#![tactic(auto)]
+
 ghost use Rattle.std.specs.Prelude.{◌+◌, ◌*◌, ◌^◌, ◌≤◌, ◌<◌, nat_abs, ◌≡◌};
 ghost use Rattle.double.specs.Value.{Number, finite};
 
 use double::{Pair, series};
-use libc::{STDIN_FILENO, STDOUT_FILENO};
+use std::io;
+use std::io::{ErrorKind, Read};
 
-fn wide(b: u8) -> u64 {
-    b as u64
-}
-
-// The number that starts at byte `at`.
+// The number that starts at byte `at`, the lowest byte first.
 fn word(s: &[u8; 40], at: usize) -> u64
     requires { at ≤ 32 }
 {
-    let mut v: u64 = 0;
-    let mut i: usize = 0;
-    while i < 8 {
-        v = (v >> 8) | (wide(s[at + i]) << 56);
-        i += 1;
-    }
-    v
+    let mut word = [0u8; 8];
+    word.copy_from_slice(&s[at..at + 8]);
+    u64::from_le_bytes(word)
 }
 
 // a - 2^50, for an a below 2^51; 0 for any other.
@@ -114,14 +109,6 @@ fn placed(x: f64, power: u64) -> u64
     }
 }
 
-fn distance(a: u64, b: u64) -> u64 {
-    if a < b { b - a } else { a - b }
-}
-
-fn larger(a: u64, b: u64) -> u64 {
-    if a < b { b } else { a }
-}
-
 // n multiples of 2^-power m in 10^-15 m, gone down: 10^15 is 5^15 * 2^15. Half a millimetre and more is told as the largest number.
 fn told(n: u64, power: u64) -> u64
     requires { (15 ≤ power) × (power ≤ 50) }
@@ -136,7 +123,7 @@ fn told(n: u64, power: u64) -> u64
 fn error(x: f64, exact: u64, power: u64) -> u64
     requires { (15 ≤ power) × (power ≤ 50) }
 {
-    told(distance(placed(x, power), exact), power)
+    told(placed(x, power).abs_diff(exact), power)
 }
 
 // Counts the record for its table and keeps the largest error of each part.
@@ -146,54 +133,57 @@ fn note(bytes: &[u8; 40], points: &mut [u64; 7], first: &mut [u64; 7], second: &
     if at < 7 {
         let z = metres::arguments(centred(word(bytes, 8)), centred(word(bytes, 16)));
         let p = answer(table, z);
-        first[at] = larger(first[at], error(p.re, word(bytes, 24), 40));
-        second[at] = larger(
-            second[at],
-            error(p.im, word(bytes, 32), second_power(table)),
-        );
+        first[at] = first[at].max(error(p.re, word(bytes, 24), 40));
+        second[at] = second[at].max(error(p.im, word(bytes, 32), second_power(table)));
         points[at] = points[at] % 1000000 + 1;
     }
 }
 
-// How many bytes of one record standard input still had.
-fn read_one(bytes: &mut [u8; 40]) -> usize {
-    io::read_full(STDIN_FILENO, bytes)
-}
-
-fn run(points: &mut [u64; 7], first: &mut [u64; 7], second: &mut [u64; 7]) {
-    let mut bytes = [0u8; 40];
-    let mut left: u64 = 1000000;
-    while left > 0 {
-        left -= 1;
-        let got = read_one(&mut bytes);
-        if got < 40 {
-            return;
-        }
-        note(&bytes, points, first, second);
+// Reads the next record; false where the input ends before it does.
+fn read_one<R: Read>(input: &mut R, bytes: &mut [u8; 40]) -> io::Result<bool> {
+    match input.read_exact(bytes) {
+        Ok(()) => Ok(true),
+        Err(e) if e.kind() == ErrorKind::UnexpectedEof => Ok(false),
+        Err(e) => Err(e),
     }
 }
 
-fn line(name: &[u8], points: u64, first: u64, second: u64) {
-    io::write_all(STDOUT_FILENO, name);
-    io::write_all(STDOUT_FILENO, b" points ");
-    io::print_decimal(STDOUT_FILENO, points);
-    io::write_all(STDOUT_FILENO, b" first ");
-    io::print_decimal(STDOUT_FILENO, first);
-    io::write_all(STDOUT_FILENO, b" second ");
-    io::print_decimal(STDOUT_FILENO, second);
-    io::write_all(STDOUT_FILENO, b" of 10^-15 m\n");
+fn run<R: Read>(
+    input: &mut R,
+    points: &mut [u64; 7],
+    first: &mut [u64; 7],
+    second: &mut [u64; 7],
+) -> io::Result<()> {
+    let mut bytes = [0u8; 40];
+    for _ in 0..1000000u64 {
+        if !read_one(input, &mut bytes)? {
+            break;
+        }
+        note(&bytes, points, first, second);
+    }
+    Ok(())
 }
 
-fn main() {
+fn line(rt: &impl Print, name: &str, points: u64, first: u64, second: u64) -> io::Result<()> {
+    println!(rt; "{name} points {points} first {first} second {second} of 10^-15 m")
+}
+
+fn main(rt: HostRuntime) -> io::Result<()> {
     let mut points = [0u64; 7];
     let mut first = [0u64; 7];
     let mut second = [0u64; 7];
-    run(&mut points, &mut first, &mut second);
-    line(b"forward_grs80", points[0], first[0], second[0]);
-    line(b"derivative_grs80", points[1], first[1], second[1]);
-    line(b"inverse_grs80", points[2], first[2], second[2]);
-    line(b"forward_krasovsky", points[3], first[3], second[3]);
-    line(b"derivative_krasovsky", points[4], first[4], second[4]);
-    line(b"inverse_krasovsky", points[5], first[5], second[5]);
-    line(b"ten", points[6], first[6], second[6]);
+    run(&mut rt.reader(), &mut points, &mut first, &mut second)?;
+    let names = [
+        "forward_grs80",
+        "derivative_grs80",
+        "inverse_grs80",
+        "forward_krasovsky",
+        "derivative_krasovsky",
+        "inverse_krasovsky",
+        "ten",
+    ];
+    for (k, name) in names.iter().enumerate() {
+        line(&rt, name, points[k], first[k], second[k])?;
+    }
+    Ok(())
 }

@@ -1,6 +1,10 @@
 // Records of 64 bytes in groups: the code or codes, two arguments, what is expected, and up to four true values in millionths of a unit. The group is the
-// (source) code, any code outside 1 to 14 being the group 0; its line is printed where the next group begins. Assumes nothing.
+// (source) code, any code outside 1 to 14 being the group 0; its line is printed where the next group begins.
+ghost use Rattle.std.specs.Prelude.{◌≡◌, ◌%◌, ◌/◌};
+ghost use Rattle.vectors.specs.Words.{word_of};
+
 use crate::{Outcome, Tally, distance, nth_number, nth_word};
+use std::io;
 
 // Where a run over the records stands.
 #[derive(Clone, Copy)]
@@ -11,11 +15,15 @@ pub struct Groups {
 }
 
 // The source code of a record, and the target code behind it.
-pub fn source_of(record: &[u8]) -> u8 {
+pub fn source_of(record: &[u8]) -> u8
+    ensures { result ≡ word_of «record».now 0 % 256 }
+{
     (nth_word(record, 0) % 256) as u8
 }
 
-pub fn target_of(record: &[u8]) -> u8 {
+pub fn target_of(record: &[u8]) -> u8
+    ensures { result ≡ word_of «record».now 0 / 256 % 256 }
+{
     (nth_word(record, 0) / 256 % 256) as u8
 }
 
@@ -47,33 +55,34 @@ impl Groups {
         }
     }
 
-    // Prints the line of the group that stands, and answers whether it went out.
-    pub fn close(self, name: &[u8]) -> bool {
-        let tally = self.tally;
-        tally.print(name, self.group)
+    // Prints the line of the group that stands.
+    pub fn close(self, rt: &impl Print, name: &str) -> io::Result<()> {
+        self.tally.print(rt, name, self.group)
     }
 
     // The tally to go on with: the group's own, or a new one, the line of the group before being printed.
-    fn tally_for(self, name: &[u8], group: u64) -> Tally {
-        if !self.begun {
-            return self.tally;
+    fn tally_for(self, rt: &impl Print, name: &str, group: u64) -> io::Result<Tally> {
+        if !self.begun || self.group == group {
+            return Ok(self.tally);
         }
-        if self.group == group {
-            return self.tally;
-        }
-        self.close(name);
-        Tally::new(self.tally.band)
+        self.close(rt, name)?;
+        Ok(Tally::new(self.tally.band))
     }
 
     // The run with one record more.
-    pub fn with(self, name: &[u8], record: &[u8], outcome: Outcome) -> Groups {
+    pub fn with(
+        self,
+        rt: &impl Print,
+        name: &str,
+        record: &[u8],
+        outcome: Outcome,
+    ) -> io::Result<Groups> {
         let group = group_of(nth_word(record, 0) % 256);
-        let tally = self.tally_for(name, group);
-        let counted = tally.with(nth_word(record, 3), outcome);
-        Groups {
-            tally: counted,
-            group: group,
+        let tally = self.tally_for(rt, name, group)?;
+        Ok(Groups {
+            tally: tally.with(nth_word(record, 3), outcome),
+            group,
             begun: true,
-        }
+        })
     }
 }

@@ -1,7 +1,6 @@
 // What a test program says of the answers of one group of records: how many there were, how many lie outside their band, and the largest distance from the true
 // value. A record expects 0, an answer that is the nearest whole number; 255, an answer so near a tie that only the band judges it; or a refusal's number.
-// Assumes nothing.
-use crate::{put, put_natural, size};
+use std::{fmt, io};
 
 // In millionths of a unit: the bands of plane answers, scale and convergence, and of ticks; and what stands for any distance that is not worth its number.
 pub const PLANE_BAND: u64 = 510000;
@@ -35,24 +34,13 @@ fn more(count: u64) -> u64 {
     if count < FAR { count + 1 } else { count }
 }
 
-fn larger(a: u64, b: u64) -> u64 {
-    if a < b { b } else { a }
-}
-
-fn apart(a: u64, b: u64) -> u64 {
-    if a < b { b - a } else { a - b }
-}
-
 fn within(band: u64, a: u64, b: u64, c: u64, d: u64) -> bool {
-    larger(larger(a, b), larger(c, d)) <= band
+    a.max(b).max(c).max(d) <= band
 }
 
 // The sum of two sizes, for numbers on either side of 0.
 fn across(a: u64, b: u64) -> u64 {
-    if FAR < b {
-        return FAR;
-    }
-    if FAR < a {
+    if FAR < a || FAR < b {
         return FAR;
     }
     a + b
@@ -60,28 +48,23 @@ fn across(a: u64, b: u64) -> u64 {
 
 // How far an answer lies from a true value in millionths of its unit; FAR for an answer past a thousand kilometres of ticks, which is none of ours.
 pub fn distance(answer: i64, millionths: i64) -> u64 {
-    let size_of_answer = size(answer);
+    let size_of_answer = answer.unsigned_abs();
     if FAR < size_of_answer {
         return FAR;
     }
     let there = size_of_answer * 1000000;
-    let true_there = size(millionths);
-    if answer < 0 {
-        if millionths < 0 {
-            return apart(there, true_there);
-        }
-        return across(there, true_there);
+    let true_there = millionths.unsigned_abs();
+    if (answer < 0) == (millionths < 0) {
+        there.abs_diff(true_there)
+    } else {
+        across(there, true_there)
     }
-    if millionths < 0 {
-        return across(there, true_there);
-    }
-    apart(there, true_there)
 }
 
 impl Tally {
     pub fn new(band: u64) -> Tally {
         Tally {
-            band: band,
+            band,
             points: 0,
             near: 0,
             outside: 0,
@@ -108,10 +91,10 @@ impl Tally {
 
     fn with_point(mut self, a: u64, b: u64, c: u64, d: u64) -> Tally {
         self.points = more(self.points);
-        self.first = larger(self.first, a);
-        self.second = larger(self.second, b);
-        self.third = larger(self.third, c);
-        self.fourth = larger(self.fourth, d);
+        self.first = self.first.max(a);
+        self.second = self.second.max(b);
+        self.third = self.third.max(c);
+        self.fourth = self.fourth.max(d);
         let held = within(self.band, a, b, c, d);
         self.with_band(held)
     }
@@ -146,39 +129,23 @@ impl Tally {
         }
     }
 
-    fn put_counts(self, line: &mut [u8], at: usize) -> usize {
-        let points = put_item(line, at, b" points ", self.points);
-        let near = put_item(line, points, b" near ", self.near);
-        put_item(line, near, b" outside ", self.outside)
-    }
-
-    // The distances in thousandths of a unit.
-    fn put_distances(self, line: &mut [u8], at: usize) -> usize {
-        let first = put_item(line, at, b" largest ", self.first / 1000);
-        let second = put_item(line, first, b" ", self.second / 1000);
-        let third = put_item(line, second, b" ", self.third / 1000);
-        put_item(line, third, b" ", self.fourth / 1000)
-    }
-
-    fn put_refusals(self, line: &mut [u8], at: usize) -> usize {
-        let refused = put_item(line, at, b" refused ", self.refused);
-        let wrong = put_item(line, refused, b" wrong ", self.wrong);
-        put(line, wrong, b"\n")
-    }
-
-    // The group's line: the call's name, the group, and what was counted.
-    pub fn print(self, name: &[u8], group: u64) -> bool {
-        let mut line = io::buffer();
-        let named = put(&mut line, 0, name);
-        let grouped = put_item(&mut line, named, b" ", group);
-        let counted = self.put_counts(&mut line, grouped);
-        let measured = self.put_distances(&mut line, counted);
-        let end = self.put_refusals(&mut line, measured);
-        crate::print(&line, end)
+    // Prints the group's line: the call's name, the group, and what was counted.
+    pub fn print(self, rt: &impl Print, name: &str, group: u64) -> io::Result<()> {
+        println!(rt; "{name} {group}{self}")
     }
 }
 
-fn put_item(line: &mut [u8], at: usize, name: &[u8], number: u64) -> usize {
-    let after = put(line, at, name);
-    put_natural(line, after, number)
+// What was counted; the distances in thousandths of a unit.
+impl fmt::Display for Tally {
+    fn fmt<W: fmt::Write>(&self, f: &mut fmt::Formatter<W>) -> fmt::Result {
+        write!(
+            f,
+            " points {} near {} outside {}",
+            self.points, self.near, self.outside
+        )?;
+        let (first, second) = (self.first / 1000, self.second / 1000);
+        let (third, fourth) = (self.third / 1000, self.fourth / 1000);
+        write!(f, " largest {first} {second} {third} {fourth}")?;
+        write!(f, " refused {} wrong {}", self.refused, self.wrong)
+    }
 }

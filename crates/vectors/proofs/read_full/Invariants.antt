@@ -1,0 +1,9 @@
+-- No more is counted than there is room for, and each turn leaves less room.
+use Rattle.std.proofs.Common.{◌≤◌, ◌-◌, length}
+use Rattle.vectors.proofs.read_full.Given as goal
+
+abbrev pub invariant-loop-count : goal.invariant-loop-count
+invariant-loop-count g l = l.count ≤ length l.bytes
+
+abbrev pub decreases-loop-count : goal.decreases-loop-count
+decreases-loop-count g l = length l.initial.bytes - l.count
