@@ -1,4 +1,6 @@
 // Doubled area. The corners are seen from the first one, so that every product fits: differences are at most 20,000,000, and 1,024 terms stay below 2^63.
+#![tactic(auto)]
+
 ghost use Rattle.std.specs.Prelude.{◌≡◌, ◌<◌, ◌≤◌, nat_abs, ◌-ℤ◌, length, get_or};
 ghost use Rattle.rules.specs.Rings.{◌to◌, origin, area_term, area2};
 ghost use Rattle.ring_corners.specs.Corners.{corner, pairs, Accepted};

@@ -1,5 +1,7 @@
 // The common boxes of runs of sixteen edges: run m has the edges from corner 16 m to corner 16 m + 16, as far as the last corner. The ring's last edge, which
 // runs back to the first corner, is in no run.
+#![tactic(auto)]
+
 ghost use Rattle.std.specs.Prelude.{◌≡◌, ◌+◌, ◌*◌, ◌<◌, ◌≤◌, length, set};
 ghost use Rattle.ring_corners.specs.Corners.{corner, pairs, Accepted};
 ghost use Rattle.ring_boxes.specs.Boxes.{Spans, RunEnd, Filled, Boxed};

@@ -1,4 +1,6 @@
 // The checks 6, 7 and 8 of a ring.
+#![tactic(auto)]
+
 ghost use Rattle.std.specs.Prelude.{◌≡◌, ◌<◌, length, ◌≤ℤ◌};
 ghost use Rattle.rules.specs.RingAnswers.{smaller, larger, ring_checks};
 ghost use Rattle.ring_checks.specs.Reach.{reach_refusal, either_refusal, corners_refusal};

@@ -1,4 +1,6 @@
 // How two rings lie to one another: whether they meet, and whether one lies inside the other. Where no edges meet, one corner tells of all of its ring.
+#![tactic(auto)]
+
 ghost use Rattle.std.specs.Prelude.{◌≡◌, ◌||◌, ◌-◌, length};
 ghost use Rattle.rules.specs.Placing.{rings_meet, first_outside, entangled};
 ghost use Rattle.ring_corners.specs.Corners.{corner, pairs, Accepted};

@@ -1,5 +1,7 @@
 // The ring calls: doubled area, turning number, crossing and nozzle of a ring that is lent as a flat slice of numbers, X and Y of each corner in turn.
 // Each answers as the rules do, refusals included, for every slice and every point; no call copies the ring.
+#![tactic(auto)]
+
 ghost use Rattle.std.specs.Prelude.{◌≡◌};
 ghost use Rattle.rules.specs.RingAnswers.{ring_checks, crossing_answer, nozzle_answer};
 ghost use Rattle.rings.specs.Answers.{AreaCall, TurningCall, crossing_paper, nozzle_paper, position_answer};

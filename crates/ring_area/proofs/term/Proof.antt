@@ -5,13 +5,13 @@ use Rattle.rules.specs.Rings.{area_term}
 use Rattle.ring_area.proofs.term.Statement.{statement}
 use Rattle.ring_area.proofs.term.Tie as tie
 
-mul_result : tie.Need-overflow-mul-result
+mul_result : tie.Need-overflow_mul-result
 mul_result c = need_mul (v_arg c.ranges.px c.requires.0) (v_arg c.ranges.qy c.requires.3) tt
 
-mul_result_2 : tie.Need-overflow-mul-result-2
+mul_result_2 : tie.Need-overflow_mul-result-2
 mul_result_2 c = need_mul (v_arg c.ranges.qx c.requires.2) (v_arg c.ranges.py c.requires.1) tt
 
-sub_result : tie.Need-overflow-sub-result
+sub_result : tie.Need-overflow_sub-result
 sub_result c = need_sub (v_mul w64 (v_arg c.ranges.px c.requires.0) (v_arg c.ranges.qy c.requires.3) tt) (v_mul w64 (v_arg c.ranges.qx c.requires.2) (v_arg c.ranges.py c.requires.1) tt) tt
 
 returns : tie.Need-returns

@@ -10,26 +10,26 @@ use Rattle.ring_corners.specs.Laws.Signed.{held, need_diff, v_diff}
 use Rattle.ring_area.proofs.x_from_first.Statement.{statement}
 use Rattle.ring_area.proofs.x_from_first.Tie as tie
 
-module _ (c : tie.After-x-at2) where
+module _ (c : tie.After-x_at-2) where
   abbrev st : tie.Start
   st = c.before.before
 
-  at_i : to_z w64 (of_z w64 c.before.x-at.result) ≡ (get_or (pairs st.args.corners.now) st.args.i origin).x
-  at_i = held (record { sfits = c.before.x-at.type-inv }) c.before.x-at.ensures
+  at_i : to_z w64 (of_z w64 c.x_at.result) ≡ (get_or (pairs st.args.corners.now) st.args.i origin).x
+  at_i = held {w = w64} (record { sfits = c.x_at.type_inv }) c.x_at.ensures
 
-  at_first : to_z w64 (of_z w64 c.x-at2.result) ≡ (get_or (pairs st.args.corners.now) 0 origin).x
-  at_first = held (record { sfits = c.x-at2.type-inv }) c.x-at2.ensures
+  at_first : to_z w64 (of_z w64 c.x_at-2.result) ≡ (get_or (pairs st.args.corners.now) 0 origin).x
+  at_first = held {w = w64} (record { sfits = c.x_at-2.type_inv }) c.x_at-2.ensures
 
   small : Near (get_or (pairs st.args.corners.now) st.args.i origin) (get_or (pairs st.args.corners.now) 0 origin)
-  small = st.pre.0.near st.args.i 0 st.pre.1 (first_in st.pre.0)
+  small = st.requires.0.near st.args.i 0 st.requires.1 (first_in st.requires.0)
 
-x_at_requires : tie.Need-x-at-requires
+x_at_requires : tie.Need-x_at-requires
 x_at_requires c κs = c.requires.1
 
-x_at_requires_2 : tie.Need-x-at-requires-2
-x_at_requires_2 c κs = first_in c.before.requires.0
+x_at_requires_2 : tie.Need-x_at-requires-2
+x_at_requires_2 c κs = first_in c.requires.0
 
-sub_result : tie.Need-overflow-sub-result
+sub_result : tie.Need-overflow_sub-result
 sub_result c = need_diff (at_i c) (at_first c) (small c).x_near tt
 
 returns : tie.Need-returns

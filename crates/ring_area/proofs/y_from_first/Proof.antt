@@ -10,26 +10,26 @@ use Rattle.ring_corners.specs.Laws.Signed.{held, need_diff, v_diff}
 use Rattle.ring_area.proofs.y_from_first.Statement.{statement}
 use Rattle.ring_area.proofs.y_from_first.Tie as tie
 
-module _ (c : tie.After-y-at2) where
+module _ (c : tie.After-y_at-2) where
   abbrev st : tie.Start
   st = c.before.before
 
-  at_i : to_z w64 (of_z w64 c.before.y-at.result) ≡ (get_or (pairs st.args.corners.now) st.args.i origin).y
-  at_i = held (record { sfits = c.before.y-at.type-inv }) c.before.y-at.ensures
+  at_i : to_z w64 (of_z w64 c.y_at.result) ≡ (get_or (pairs st.args.corners.now) st.args.i origin).y
+  at_i = held {w = w64} (record { sfits = c.y_at.type_inv }) c.y_at.ensures
 
-  at_first : to_z w64 (of_z w64 c.y-at2.result) ≡ (get_or (pairs st.args.corners.now) 0 origin).y
-  at_first = held (record { sfits = c.y-at2.type-inv }) c.y-at2.ensures
+  at_first : to_z w64 (of_z w64 c.y_at-2.result) ≡ (get_or (pairs st.args.corners.now) 0 origin).y
+  at_first = held {w = w64} (record { sfits = c.y_at-2.type_inv }) c.y_at-2.ensures
 
   small : Near (get_or (pairs st.args.corners.now) st.args.i origin) (get_or (pairs st.args.corners.now) 0 origin)
-  small = st.pre.0.near st.args.i 0 st.pre.1 (first_in st.pre.0)
+  small = st.requires.0.near st.args.i 0 st.requires.1 (first_in st.requires.0)
 
-y_at_requires : tie.Need-y-at-requires
+y_at_requires : tie.Need-y_at-requires
 y_at_requires c κs = c.requires.1
 
-y_at_requires_2 : tie.Need-y-at-requires-2
-y_at_requires_2 c κs = first_in c.before.requires.0
+y_at_requires_2 : tie.Need-y_at-requires-2
+y_at_requires_2 c κs = first_in c.requires.0
 
-sub_result : tie.Need-overflow-sub-result
+sub_result : tie.Need-overflow_sub-result
 sub_result c = need_diff (at_i c) (at_first c) (small c).y_near tt
 
 returns : tie.Need-returns

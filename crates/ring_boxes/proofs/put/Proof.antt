@@ -8,25 +8,25 @@ use borrow.Author.Rules.{rules}
 use Rattle.ring_boxes.proofs.put.Statement.{statement}
 use Rattle.ring_boxes.proofs.put.Tie as tie
 
-mul_x : tie.Need-overflow-mul-x
+mul_x : tie.Need-overflow_mul-x
 mul_x c = search rules
 
-mul_x_2 : tie.Need-overflow-mul-x-2
+mul_x_2 : tie.Need-offset_bounds-list-m
 mul_x_2 c = search rules
 
-element_set_from_x : tie.Need-element-set-from-x
+element_set_from_x : tie.Need-bounds-list-m
 element_set_from_x c = search rules
 
-mul_y : tie.Need-overflow-mul-y
+mul_y : tie.Need-overflow_mul-y
 mul_y c = search rules
 
-add_y : tie.Need-overflow-add-y
+add_y : tie.Need-overflow_add-y
 add_y c = search rules
 
-mul_y_2 : tie.Need-overflow-mul-y-2
+mul_y_2 : tie.Need-offset_bounds-list-m-2
 mul_y_2 c = search rules
 
-element_set_from_y : tie.Need-element-set-from-y
+element_set_from_y : tie.Need-bounds-list-m-2
 element_set_from_y c = search rules
 
 returns : tie.Need-returns

@@ -5,21 +5,21 @@ use Rattle.ring_checks.specs.Reach.{either_refusal}
 use Rattle.ring_checks.proofs.either.Statement.{statement}
 use Rattle.ring_checks.proofs.either.Tie as tie
 
-returns : tie.Need-returns
+returns : tie.Need-returns-then-x-eq7
 unfolding either_refusal
-returns c = simp (eq-eqb _ _ c.if1.true)
+returns c = simp (eq-eqb _ _ c.if-x-eq7.true)
 
-returns_2 : tie.Need-returns-2
+returns_2 : tie.Need-returns-then-y-eq7
 unfolding either_refusal
-returns_2 c = simp (ne_eqb _ _ c.before.if1.false, eq-eqb _ _ c.if2.true)
+returns_2 c = simp (ne_eqb _ _ c.if-x-eq7.false, eq-eqb _ _ c.if-y-eq7.true)
 
-returns_3 : tie.Need-returns-3
+returns_3 : tie.Need-returns-then-x-eq8
 unfolding either_refusal
-returns_3 c = simp (ne_eqb _ _ c.before.before.if1.false, ne_eqb _ _ c.before.if2.false, eq-eqb _ _ c.if3.true)
+returns_3 c = simp (ne_eqb _ _ c.if-x-eq7.false, ne_eqb _ _ c.if-y-eq7.false, eq-eqb _ _ c.if-x-eq8.true)
 
-returns_4 : tie.Need-returns-4
+returns_4 : tie.Need-returns
 unfolding either_refusal
-returns_4 c = simp (ne_eqb _ _ c.before.before.if1.false, ne_eqb _ _ c.before.if2.false, ne_eqb _ _ c.if3.false)
+returns_4 c = simp (ne_eqb _ _ c.if-x-eq7.false, ne_eqb _ _ c.if-y-eq7.false, ne_eqb _ _ c.if-x-eq8.false)
 
 pub either_spec : {M : Type 1} → statement M
 either_spec = tie.close (tie.spec returns returns_2 returns_3 returns_4)

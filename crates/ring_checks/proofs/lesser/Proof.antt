@@ -5,11 +5,11 @@ use Rattle.ring_checks.specs.Laws.Axis.{smaller_yes, smaller_no}
 use Rattle.ring_checks.proofs.lesser.Statement.{statement}
 use Rattle.ring_checks.proofs.lesser.Tie as tie
 
-returns : tie.Need-returns
-returns c = (v_fit c.before.ranges.b).is ∙ sym (smaller_yes c.before.args.a c.before.args.b (lt_yes (v_fit c.before.ranges.b) (v_fit c.before.ranges.a) c.if1.true))
+returns : tie.Need-returns-then-b-a
+returns c = (v_fit c.ranges.b).is ∙ sym (smaller_yes c.args.a c.args.b (lt_yes (v_fit c.ranges.b) (v_fit c.ranges.a) c.if-b-a.true))
 
-returns_2 : tie.Need-returns-2
-returns_2 c = (v_fit c.before.ranges.a).is ∙ sym (smaller_no c.before.args.a c.before.args.b (lt_no (v_fit c.before.ranges.b) (v_fit c.before.ranges.a) c.if1.false))
+returns_2 : tie.Need-returns
+returns_2 c = (v_fit c.ranges.a).is ∙ sym (smaller_no c.args.a c.args.b (lt_no (v_fit c.ranges.b) (v_fit c.ranges.a) c.if-b-a.false))
 
 pub lesser_spec : {M : Type 1} → statement M
 lesser_spec = tie.close (tie.spec returns returns_2)

@@ -7,20 +7,20 @@ use Rattle.ring_checks.specs.Laws.Axis.{reach_low, reach_high, reach_inside, rea
 use Rattle.ring_checks.proofs.reach.Statement.{statement}
 use Rattle.ring_checks.proofs.reach.Tie as tie
 
-returns : tie.Need-returns
-returns c = sym (reach_low c.before.args.low c.before.args.high (lt_yes (v_fit c.before.ranges.low) (v_minus 9_999_999_999) c.if1.true))
+returns : tie.Need-returns-then-low-ltminus10000000000
+returns c = sym (reach_low c.args.low c.args.high (lt_yes (v_fit c.ranges.low) (v_minus 9_999_999_999) c.if-low-ltminus10000000000.true))
 
-returns_2 : tie.Need-returns-2
-returns_2 c = sym (reach_high c.before.before.args.low c.before.before.args.high (lt_yes (v_num 10_000_000_000) (v_fit c.before.before.ranges.high) c.if2.true))
+returns_2 : tie.Need-returns-then-high-gt10000000000
+returns_2 c = sym (reach_high c.args.low c.args.high (lt_yes (v_num 10_000_000_000) (v_fit c.ranges.high) c.if-high-gt10000000000.true))
 
-sub_if3 : tie.Need-overflow-sub-if3
-sub_if3 c = let h = reach_inside c.before.before.args.low c.before.before.args.high c.before.before.requires (lt_no (v_fit c.before.before.ranges.low) (v_minus 9_999_999_999) c.before.if1.false) (lt_no (v_num 10_000_000_000) (v_fit c.before.before.ranges.high) c.if2.false) in need_sub (v_arg c.before.before.ranges.high h.1) (v_arg c.before.before.ranges.low h.0) tt
+sub_if3 : tie.Need-overflow_sub-high
+sub_if3 c = let h = reach_inside c.args.low c.args.high c.requires (lt_no (v_fit c.ranges.low) (v_minus 9_999_999_999) c.if-low-ltminus10000000000.false) (lt_no (v_num 10_000_000_000) (v_fit c.ranges.high) c.if-high-gt10000000000.false) in need_sub (v_arg c.ranges.high h.1) (v_arg c.ranges.low h.0) tt
 
-returns_3 : tie.Need-returns-3
-returns_3 c = sym (reach_wide c.before.before.before.args.low c.before.before.before.args.high c.before.before.before.requires (lt_no (v_fit c.before.before.before.ranges.low) (v_minus 9_999_999_999) c.before.before.if1.false) (lt_no (v_num 10_000_000_000) (v_fit c.before.before.before.ranges.high) c.before.if2.false) (lt_yes (v_num 20_000_000) (let h = reach_inside c.before.before.before.args.low c.before.before.before.args.high c.before.before.before.requires (lt_no (v_fit c.before.before.before.ranges.low) (v_minus 9_999_999_999) c.before.before.if1.false) (lt_no (v_num 10_000_000_000) (v_fit c.before.before.before.ranges.high) c.before.if2.false) in v_sub w64 (v_arg c.before.before.before.ranges.high h.1) (v_arg c.before.before.before.ranges.low h.0) tt) c.if3.true))
+returns_3 : tie.Need-returns-then-high-low-gt20000000
+returns_3 c = sym (reach_wide c.args.low c.args.high c.requires (lt_no (v_fit c.ranges.low) (v_minus 9_999_999_999) c.if-low-ltminus10000000000.false) (lt_no (v_num 10_000_000_000) (v_fit c.ranges.high) c.if-high-gt10000000000.false) (lt_yes (v_num 20_000_000) (let h = reach_inside c.args.low c.args.high c.requires (lt_no (v_fit c.ranges.low) (v_minus 9_999_999_999) c.if-low-ltminus10000000000.false) (lt_no (v_num 10_000_000_000) (v_fit c.ranges.high) c.if-high-gt10000000000.false) in v_sub w64 (v_arg c.ranges.high h.1) (v_arg c.ranges.low h.0) tt) c.if-high-low-gt20000000.true))
 
-returns_4 : tie.Need-returns-4
-returns_4 c = sym (reach_fine c.before.before.before.args.low c.before.before.before.args.high c.before.before.before.requires (lt_no (v_fit c.before.before.before.ranges.low) (v_minus 9_999_999_999) c.before.before.if1.false) (lt_no (v_num 10_000_000_000) (v_fit c.before.before.before.ranges.high) c.before.if2.false) (lt_no (v_num 20_000_000) (let h = reach_inside c.before.before.before.args.low c.before.before.before.args.high c.before.before.before.requires (lt_no (v_fit c.before.before.before.ranges.low) (v_minus 9_999_999_999) c.before.before.if1.false) (lt_no (v_num 10_000_000_000) (v_fit c.before.before.before.ranges.high) c.before.if2.false) in v_sub w64 (v_arg c.before.before.before.ranges.high h.1) (v_arg c.before.before.before.ranges.low h.0) tt) c.if3.false))
+returns_4 : tie.Need-returns
+returns_4 c = sym (reach_fine c.args.low c.args.high c.requires (lt_no (v_fit c.ranges.low) (v_minus 9_999_999_999) c.if-low-ltminus10000000000.false) (lt_no (v_num 10_000_000_000) (v_fit c.ranges.high) c.if-high-gt10000000000.false) (lt_no (v_num 20_000_000) (let h = reach_inside c.args.low c.args.high c.requires (lt_no (v_fit c.ranges.low) (v_minus 9_999_999_999) c.if-low-ltminus10000000000.false) (lt_no (v_num 10_000_000_000) (v_fit c.ranges.high) c.if-high-gt10000000000.false) in v_sub w64 (v_arg c.ranges.high h.1) (v_arg c.ranges.low h.0) tt) c.if-high-low-gt20000000.false))
 
 pub reach_spec : {M : Type 1} → statement M
 reach_spec = tie.close (tie.spec returns returns_2 sub_if3 returns_3 returns_4)

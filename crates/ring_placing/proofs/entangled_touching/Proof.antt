@@ -21,47 +21,47 @@ module _ (t : tie.After-meet) where
   abbrev s : List Corner
   s = pairs st.args.second.now
 
-sub_none : tie.Need-overflow-sub-none
+sub_none : tie.Need-slice_bounds-none-count
 sub_none c = search rules
 
-part_none_start : tie.Need-slice-bounds-none-start
+part_none_start : tie.Need-slice_bounds-none-start
 part_none_start c = search rules
 
-part_none_end : tie.Need-slice-bounds-none-end
+part_none_end : tie.Need-slice_bounds-none-end
 part_none_end c = search rules
 
 meet_requires : tie.Need-meet-requires
 unfolding pairs
-meet_requires c κs = (c.before.requires.0, c.before.requires.1, no_boxes (pairs c.before.args.first.now) [], c.before.requires.2, c.before.requires.3)
+meet_requires c κs = (c.requires.0, c.requires.1, no_boxes (pairs c.args.first.now) [], c.requires.2, c.requires.3)
 
-returns : tie.Need-returns
-returns c = let t = c.before in sym (tangled_meeting (r t) (s t) (first_in (st t).requires.0) (first_in (st t).requires.1) (sym t.meet.ensures ∙ c.if1.true))
+returns : tie.Need-returns-then-meet
+returns c = let t = c.before in sym (tangled_meeting (r t) (s t) (first_in (st t).requires.0) (first_in (st t).requires.1) (sym t.meet.ensures ∙ c.if-meet.true))
 
 -- no boxes are right of the first ring, whichever way it is asked
 outside_requires : tie.Need-outside-requires
 unfolding pairs
 outside_requires c κs = search (rules, no_boxes (r c.before) [])
 
-outside_requires_2 : tie.Need-outside-requires-2
+outside_requires_2 : tie.Need-outside-requires-then-outside
 unfolding pairs
 outside_requires_2 c κs = search (rules, no_boxes (r c.before.before.before) [])
 
-returns_2 : tie.Need-returns-2
+returns_2 : tie.Need-returns-then-outside-2
 returns_2 c =
     let o = c.before.before in
     let t = o.before.before.before in
-    sym (not_tangled (r t) (s t) (first_in (st t).requires.0) (first_in (st t).requires.1) (sym t.meet.ensures ∙ o.before.before.if1.false) (sym o.before.outside.ensures ∙ o.if2.true) (sym c.before.outside2.ensures ∙ c.if3.true))
+    sym (not_tangled (r t) (s t) (first_in (st t).requires.0) (first_in (st t).requires.1) (sym t.meet.ensures ∙ o.if-meet.false) (sym o.outside.ensures ∙ o.if-outside.true) (sym c.outside-then-outside.ensures ∙ c.if-outside-2.true))
 
-returns_3 : tie.Need-returns-3
+returns_3 : tie.Need-returns-then-outside
 returns_3 c =
     let o = c.before.before in
     let t = o.before.before.before in
-    sym (tangled_around (r t) (s t) (first_in (st t).requires.0) (first_in (st t).requires.1) (sym t.meet.ensures ∙ o.before.before.if1.false) (sym o.before.outside.ensures ∙ o.if2.true) (sym c.before.outside2.ensures ∙ c.if3.false))
+    sym (tangled_around (r t) (s t) (first_in (st t).requires.0) (first_in (st t).requires.1) (sym t.meet.ensures ∙ o.if-meet.false) (sym o.outside.ensures ∙ o.if-outside.true) (sym c.outside-then-outside.ensures ∙ c.if-outside-2.false))
 
-returns_4 : tie.Need-returns-4
+returns_4 : tie.Need-returns
 returns_4 c =
     let t = c.before.before.before in
-    sym (tangled_inside (r t) (s t) (first_in (st t).requires.0) (first_in (st t).requires.1) (sym t.meet.ensures ∙ c.before.before.if1.false) (sym c.before.outside.ensures ∙ c.if2.false))
+    sym (tangled_inside (r t) (s t) (first_in (st t).requires.0) (first_in (st t).requires.1) (sym t.meet.ensures ∙ c.if-meet.false) (sym c.outside.ensures ∙ c.if-outside.false))
 
 pub entangled_touching_spec : {M : Type 1} → statement M
 entangled_touching_spec =

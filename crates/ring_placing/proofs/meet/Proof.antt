@@ -6,12 +6,12 @@ use borrow.Author.Rules.{rules}
 use Rattle.ring_placing.proofs.meet.Statement.{statement}
 use Rattle.ring_placing.proofs.meet.Tie as tie
 
-meet_in_box_requires : tie.Need-meet-in-box-requires
+meet_in_box_requires : tie.Need-meet_in_box-requires
 meet_in_box_requires c κs =
     let st = c.before.before.before.before in
     let p = st.requires in
     let b = st.args.around in
-    let f = c.struct-told4.given in
+    let f = c.struct_told-4-1.given in
     let low : raw b.low_x b.low_y ≡ corner b.low_x b.low_y = raw_is (record { sfits = f.0.1 }) (record { sfits = f.1.1.0.1 }) in
     let high : raw b.high_x b.high_y ≡ corner b.high_x b.high_y = raw_is (record { sfits = f.1.0.1 }) (record { sfits = f.1.1.1.0.1 }) in
     (p.0, p.1, p.2, rw (low, high) p.4, p.3)

@@ -16,41 +16,41 @@ use Rattle.ring_placing.specs.Laws.Placing.{first_at}
 use Rattle.ring_placing.proofs.outside.Statement.{statement}
 use Rattle.ring_placing.proofs.outside.Tie as tie
 
-module _ (c : tie.After-number-by-runs) where
+module _ (c : tie.After-number_by_runs-number) where
   abbrev st : tie.Start
   st = c.before.before.before
 
-  at_first : raw c.before.before.x-at.result c.before.y-at.result ≡ get_or (pairs st.args.ring.now) 0 origin
-  at_first = made (held (record { sfits = c.before.before.x-at.type-inv }) c.before.before.x-at.ensures) (held (record { sfits = c.before.y-at.type-inv }) c.before.y-at.ensures)
+  at_first : raw c.x_at-x.result c.y_at-y.result ≡ get_or (pairs st.args.ring.now) 0 origin
+  at_first = made (held {w = w64} (record { sfits = c.x_at-x.type_inv }) c.x_at-x.ensures) (held {w = w64} (record { sfits = c.y_at-y.type_inv }) c.y_at-y.ensures)
 
-  fits : SFits w64 c.number-by-runs.result
-  fits = record { sfits = c.number-by-runs.type-inv }
+  fits : SFits w64 c.number_by_runs-number.result
+  fits = record { sfits = c.number_by_runs-number.type_inv }
 
-  told : first_outside (pairs st.args.outer.now) (pairs st.args.ring.now) ≡ zero_sign (sign_of c.number-by-runs.result)
+  told : first_outside (pairs st.args.outer.now) (pairs st.args.ring.now) ≡ zero_sign (sign_of c.number_by_runs-number.result)
   told =
-      first_at (pairs st.args.outer.now) (pairs st.args.ring.now) (first_in st.pre.1)
-      ∙ ap is_zero (sym (rw at_first at c.number-by-runs.ensures))
-      ∙ zero_is c.number-by-runs.result
+      first_at (pairs st.args.outer.now) (pairs st.args.ring.now) (first_in st.requires.1)
+      ∙ ap is_zero (sym (rw at_first at c.number_by_runs-number.ensures))
+      ∙ zero_is c.number_by_runs-number.result
 
-x_at_requires : tie.Need-x-at-requires
+x_at_requires : tie.Need-x_at-x-requires
 x_at_requires c κs = first_in c.requires.1
 
-y_at_requires : tie.Need-y-at-requires
-y_at_requires c κs = first_in c.before.requires.1
+y_at_requires : tie.Need-y_at-y-requires
+y_at_requires c κs = first_in c.requires.1
 
-number_by_runs_requires : tie.Need-number-by-runs-requires
-number_by_runs_requires c κs = let p = c.before.before.requires in (p.0, p.2)
+number_by_runs_requires : tie.Need-number_by_runs-number-requires
+number_by_runs_requires c κs = let p = c.requires in (p.0, p.2)
 
-returns : tie.Need-returns
-returns c = let t = c.before in sym (told t ∙ ap zero_sign (sign_positive t.number-by-runs.result (lt_yes (v_num 0) (v_fit (fits t)) c.if1.true)))
+returns : tie.Need-returns-then-number-gt0
+returns c = let t = c.before in sym (told t ∙ ap zero_sign (sign_positive t.number_by_runs-number.result (lt_yes (v_num 0) (v_fit (fits t)) c.if-number-gt0.true)))
 
-returns_2 : tie.Need-returns-2
-returns_2 c = let t = c.before.before in sym (told t ∙ ap zero_sign (sign_negative t.number-by-runs.result (lt_yes (v_fit (fits t)) (v_num 0) c.if2.true)))
+returns_2 : tie.Need-returns-then-number-lt0
+returns_2 c = let t = c.before.before in sym (told t ∙ ap zero_sign (sign_negative t.number_by_runs-number.result (lt_yes (v_fit (fits t)) (v_num 0) c.if-number-lt0.true)))
 
-returns_3 : tie.Need-returns-3
+returns_3 : tie.Need-returns
 returns_3 c =
     let t = c.before.before in
-    sym (told t ∙ ap zero_sign (sign_zero t.number-by-runs.result (lt_no (v_num 0) (v_fit (fits t)) c.before.if1.false) (lt_no (v_fit (fits t)) (v_num 0) c.if2.false)))
+    sym (told t ∙ ap zero_sign (sign_zero t.number_by_runs-number.result (lt_no (v_num 0) (v_fit (fits t)) c.if-number-gt0.false) (lt_no (v_fit (fits t)) (v_num 0) c.if-number-lt0.false)))
 
 pub outside_spec : {M : Type 1} → statement M
 outside_spec =

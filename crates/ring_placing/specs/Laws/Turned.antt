@@ -53,7 +53,7 @@ pass {r} {p} {sum} {k} zero t h f = subst (Turning r p sum) (none_more k) t
     none_more : (k : ℕ) → k ≡ k + 0
     none_more k = omega arith
 pass {r} {p} {sum} {k} (suc n) t h f =
-    subst (Turning r p sum) (one_more k n) (pass n next (omega arith) (λ j a b. f j (omega arith) (omega arith)))
+    subst (Turning r p sum) (one_more k n) (pass {k = k + 1} n next (omega arith) (λ j a b. f j (omega arith) (omega arith)))
   where
     one_more : (k n : ℕ) → (k + 1) + n ≡ k + suc n
     one_more k n = omega arith

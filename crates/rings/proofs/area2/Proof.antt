@@ -1,4 +1,5 @@
 -- Refused as the checks refuse; otherwise the doubled area of the corners. Assumes nothing.
+use mir.Syntax.{w64}
 use mathlib.Core.Path.{◌∙◌, ap}
 use mathlib.Core.List.{List}
 use Rattle.rules.specs.Refusals.{Answer, answered}
@@ -14,21 +15,21 @@ use Rattle.rings.proofs.area2.Tie as tie
 abbrev asked : List Corner → Answer ℤ
 asked r = answered (area2 r)
 
-refusal_requires : tie.Need-refusal-requires
+refusal_requires : tie.Need-refusal-refusal-requires
 refusal_requires c κs = search rules
 
-returns : tie.Need-returns
+returns : tie.Need-returns-then-refusal-gt0
 unfolding area_answer
-returns c = refuses c.before.before.args.corners.now c.before.refusal.ensures asked c.if1.true
+returns c = refuses c.args.corners.now c.refusal-refusal.ensures asked c.if-refusal-gt0.true
 
 doubled_requires : tie.Need-doubled-requires
-doubled_requires c κs = accepts c.before.before.args.corners.now c.before.refusal.ensures c.if1.false
+doubled_requires c κs = accepts c.args.corners.now c.refusal-refusal.ensures c.if-refusal-gt0.false
 
-returns_2 : tie.Need-returns-2
+returns_2 : tie.Need-returns
 unfolding area_answer
 returns_2 c =
-    ap answered (held (record { sfits = c.doubled.type-inv }) c.doubled.ensures)
-    ∙ answers c.before.before.before.args.corners.now c.before.before.refusal.ensures asked c.before.if1.false
+    ap answered (held {w = w64} (record { sfits = c.doubled.type_inv }) c.doubled.ensures)
+    ∙ answers c.args.corners.now c.refusal-refusal.ensures asked c.if-refusal-gt0.false
 
 pub area2_spec : {M : Type 1} → statement M
 area2_spec = tie.close (tie.spec refusal_requires returns doubled_requires returns_2)

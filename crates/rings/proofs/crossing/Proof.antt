@@ -6,21 +6,21 @@ use borrow.Author.Rules.{rules}
 use Rattle.rings.proofs.crossing.Statement.{statement}
 use Rattle.rings.proofs.crossing.Tie as tie
 
-refusal_requires : tie.Need-refusal-requires
+refusal_requires : tie.Need-refusal-refusal-requires
 refusal_requires c κs = search rules
 
-returns : tie.Need-returns
+returns : tie.Need-returns-then-refusal-gt0
 unfolding crossing_answer
-returns c = refuses c.before.before.args.corners.now c.before.refusal.ensures not_crossed c.if1.true
+returns c = refuses c.args.corners.now c.refusal-refusal.ensures not_crossed c.if-refusal-gt0.true
 
-first_pair_requires : tie.Need-first-pair-requires
-first_pair_requires c κs = accepts c.before.before.args.corners.now c.before.refusal.ensures c.if1.false
+first_pair_requires : tie.Need-first_pair-requires
+first_pair_requires c κs = accepts c.args.corners.now c.refusal-refusal.ensures c.if-refusal-gt0.false
 
-returns_2 : tie.Need-returns-2
+returns_2 : tie.Need-returns
 unfolding crossing_answer
 returns_2 c =
-    c.first-pair.ensures
-    ∙ answers c.before.before.before.args.corners.now c.before.before.refusal.ensures not_crossed c.before.if1.false
+    c.first_pair.ensures
+    ∙ answers c.args.corners.now c.refusal-refusal.ensures not_crossed c.if-refusal-gt0.false
 
 pub crossing_spec : {M : Type 1} → statement M
 crossing_spec = tie.close (tie.spec refusal_requires returns first_pair_requires returns_2)

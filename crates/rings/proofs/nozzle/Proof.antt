@@ -18,7 +18,7 @@ abbrev asked : Corner → List Corner → Answer Nozzle
 asked p r = not_crossed r >> answered (nozzle r p)
 
 -- what the search found is the answer, or lets the nozzle's answer pass
-module _ (t : tie.After-first-pair) where
+module _ (t : tie.After-first_pair) where
   abbrev st : tie.Start
   st = t.before.before.before
 
@@ -28,49 +28,49 @@ module _ (t : tie.After-first-pair) where
   abbrev p : Corner
   p = corner st.args.px st.args.py
 
-  judged : (f : CrossingAnswer) → t.first-pair.result ≡ f → crossing_paper f >> answered (nozzle r p) ≡ nozzle_answer st.args.corners.now p
+  judged : (f : CrossingAnswer) → t.first_pair.result ≡ f → crossing_paper f >> answered (nozzle r p) ≡ nozzle_answer st.args.corners.now p
   unfolding nozzle_answer
   judged f e =
-      ap (λ (a : Answer ℕ). a >> answered (nozzle r p)) (sym (ap crossing_paper e) ∙ t.first-pair.ensures)
-      ∙ answers st.args.corners.now t.before.before.refusal.ensures (asked p) t.before.if1.left
+      ap (λ (a : Answer ℕ). a >> answered (nozzle r p)) (sym (ap crossing_paper e) ∙ t.first_pair.ensures)
+      ∙ answers st.args.corners.now t.refusal-refusal.ensures (asked p) t.if-refusal-gt0.false
 
-refusal_requires : tie.Need-refusal-requires
+refusal_requires : tie.Need-refusal-refusal-requires
 refusal_requires c κs = search rules
 
-returns : tie.Need-returns
+returns : tie.Need-returns-then-refusal-gt0
 unfolding nozzle_answer
 returns c =
     let st = c.before.before in
-    refuses st.args.corners.now c.before.refusal.ensures (asked (corner st.args.px st.args.py)) c.if1.true
+    refuses st.args.corners.now c.refusal-refusal.ensures (asked (corner st.args.px st.args.py)) c.if-refusal-gt0.true
 
-first_pair_requires : tie.Need-first-pair-requires
-first_pair_requires c κs = accepts c.before.before.args.corners.now c.before.refusal.ensures c.if1.false
+first_pair_requires : tie.Need-first_pair-requires
+first_pair_requires c κs = accepts c.args.corners.now c.refusal-refusal.ensures c.if-refusal-gt0.false
 
-enum_told : tie.Need-enum-told
+enum_told : tie.Need-enum_told-1
 enum_told c = search rules
 
 standing_requires : tie.Need-standing-requires
-standing_requires c κs = let e = c.before.before.before in accepts e.before.before.args.corners.now e.before.refusal.ensures e.if1.false
+standing_requires c κs = let e = c.before.before in accepts e.args.corners.now e.refusal-refusal.ensures e.if-refusal-gt0.false
 
-enum_known_low : tie.Need-enum-known-low
+enum_known_low : tie.Need-enum_known-low
 enum_known_low c = search rules
 
-enum_known_number : tie.Need-enum-known-number
+enum_known_number : tie.Need-enum_known-number
 enum_known_number c = search rules
 
-returns_2 : tie.Need-returns-2
+returns_2 : tie.Need-returns-in-Clean
 returns_2 c =
-    let t = c.before.before.before in
-    let st = t.before.before.before in
+    let t = c.before.before in
+    let st = t.before.before in
     c.standing.ensures
     ∙ ap (λ (p : Corner). answered (nozzle (pairs st.args.corners.now) p)) (raw_is st.ranges.px st.ranges.py)
-    ∙ judged t _ c.before.enum_told.given.1
+    ∙ judged t _ c.in-Clean.is
 
-returns_3 : tie.Need-returns-3
-returns_3 c = judged c.before.before.before _ c.before.low.given.1
+returns_3 : tie.Need-returns-in-Crossed
+returns_3 c = judged c.before _ c.in-Crossed.is
 
-returns_4 : tie.Need-returns-4
-returns_4 c = judged c.before.before.before _ c.before.number.given.1
+returns_4 : tie.Need-returns-in-Refused
+returns_4 c = judged c.before _ c.in-Refused.is
 
 pub nozzle_spec : {M : Type 1} → statement M
 nozzle_spec =

@@ -1,6 +1,7 @@
 -- The sign of D as it is worked out. Assumes nothing.
 use mathlib.Core.Path.{◌∙◌, ap}
 use mir.Facts.{to_z-of_z}
+use mir.Syntax.{w64}
 use Rattle.ring_corners.specs.Sides.{sign_of}
 use Rattle.ring_corners.specs.Laws.Signed.{held}
 use Rattle.ring_corners.specs.Laws.Sides.{near_wide}
@@ -17,7 +18,7 @@ sign_of_requires c κs = search rules
 returns : tie.Need-returns
 returns c =
     let st = c.before.before in
-    c.sign_of.ensures ∙ ap sign_of (held (record { sfits = c.before.side.type_inv }) (rw (to_z-of_z st.ranges.ax, to_z-of_z st.ranges.ay, to_z-of_z st.ranges.bx, to_z-of_z st.ranges.by, to_z-of_z st.ranges.px, to_z-of_z st.ranges.py) at c.before.side.ensures))
+    c.sign_of.ensures ∙ ap sign_of (held {w = w64} (record { sfits = c.before.side.type_inv }) (rw (to_z-of_z st.ranges.ax, to_z-of_z st.ranges.ay, to_z-of_z st.ranges.bx, to_z-of_z st.ranges.by, to_z-of_z st.ranges.px, to_z-of_z st.ranges.py) at c.before.side.ensures))
 
 pub near_sign_spec : {M : Type 1} → statement M
 near_sign_spec = tie.close (tie.spec side_requires sign_of_requires returns)

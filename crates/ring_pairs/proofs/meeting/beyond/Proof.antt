@@ -14,11 +14,11 @@ module _ (c : tie.After-greater) where
   abbrev st : tie.Start
   st = c.before.before
 
-  least_is : to_z w64 (of_z w64 c.before.lesser.result) ≡ smaller st.args.c st.args.d
-  least_is = held (record { sfits = c.before.lesser.type-inv }) (rw (to_z-of_z st.fits.c, to_z-of_z st.fits.d) at c.before.lesser.ensures)
+  least_is : to_z w64 (of_z w64 c.lesser.result) ≡ smaller st.args.c st.args.d
+  least_is = held {w = w64} (record { sfits = c.lesser.type_inv }) (rw (to_z-of_z st.ranges.c, to_z-of_z st.ranges.d) at c.lesser.ensures)
 
   greatest_is : to_z w64 (of_z w64 c.greater.result) ≡ larger st.args.c st.args.d
-  greatest_is = held (record { sfits = c.greater.type-inv }) (rw (to_z-of_z st.fits.c, to_z-of_z st.fits.d) at c.greater.ensures)
+  greatest_is = held {w = w64} (record { sfits = c.greater.type_inv }) (rw (to_z-of_z st.ranges.c, to_z-of_z st.ranges.d) at c.greater.ensures)
 
 lesser_requires : tie.Need-lesser-requires
 lesser_requires c κs = search rules

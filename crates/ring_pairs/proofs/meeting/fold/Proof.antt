@@ -35,39 +35,39 @@ module _ (st : tie.Start) where
   e' = raw st.args.cx st.args.cy
 
   signs : sign_of (D a' b' e') ≡ sign_of (D a b e)
-  signs = rw (raw_is st.fits.ax st.fits.ay, raw_is st.fits.bx st.fits.by, raw_is st.fits.cx st.fits.cy)
+  signs = rw (raw_is st.ranges.ax st.ranges.ay, raw_is st.ranges.bx st.ranges.by, raw_is st.ranges.cx st.ranges.cy)
 
   folded : (lt_z (ahead a' b' e') (pos 0) || no_length a' b') ≡ (lt_z (ahead a b e) (pos 0) || no_length a b)
-  folded = rw (raw_is st.fits.ax st.fits.ay, raw_is st.fits.bx st.fits.by, raw_is st.fits.cx st.fits.cy)
+  folded = rw (raw_is st.ranges.ax st.ranges.ay, raw_is st.ranges.bx st.ranges.by, raw_is st.ranges.cx st.ranges.cy)
 
   row : RowNear a' b' e'
-  row = rw (raw_is st.fits.ax st.fits.ay, raw_is st.fits.bx st.fits.by, raw_is st.fits.cx st.fits.cy) st.pre
+  row = rw (raw_is st.ranges.ax st.ranges.ay, raw_is st.ranges.bx st.ranges.by, raw_is st.ranges.cx st.ranges.cy) st.requires
 
-near_sign_requires : tie.Need-near-sign-requires
+near_sign_requires : tie.Need-near_sign-requires
 near_sign_requires c κs = let st = c in rw (raw_is st.ranges.ax st.ranges.ay, raw_is st.ranges.bx st.ranges.by, raw_is st.ranges.cx st.ranges.cy) (c.requires.b_a, c.requires.c_a)
 
-enum_told : tie.Need-enum-told
+enum_told : tie.Need-enum_told-1
 enum_told c = search rules
 
-enum_told_2 : tie.Need-enum-told-2
+enum_told_2 : tie.Need-enum_told-in-Zero
 enum_told_2 c = search rules
 
-straight_fold_requires : tie.Need-straight-fold-requires
-straight_fold_requires c κs = row c.before.before.before
+straight_fold_requires : tie.Need-straight_fold-requires
+straight_fold_requires c κs = row c.before.before
 
-enum_told_3 : tie.Need-enum-told-3
+enum_told_3 : tie.Need-enum_told-in-Negative
 enum_told_3 c = search rules
 
-returns : tie.Need-returns
-returns c = let st = c.before.before.before in sym (folds_bent (a st) (b st) (e st) Positive (sym (c.before.before.near-sign.ensures ∙ signs st) ∙ c.enum_told.given.1) refl)
+returns : tie.Need-returns-in-Positive
+returns c = let st = c.before.before in sym (folds_bent (a st) (b st) (e st) Positive (sym (c.near_sign.ensures ∙ signs st) ∙ c.in-Positive.is) refl)
 
-returns_2 : tie.Need-returns-2
+returns_2 : tie.Need-returns-in-Zero
 returns_2 c =
-    let st = c.before.before.before.before in
-    c.straight-fold.ensures ∙ folded st ∙ sym (folds_straight (a st) (b st) (e st) (sym (c.before.before.before.near-sign.ensures ∙ signs st) ∙ c.before.enum-told2.given.1))
+    let st = c.before.before.before in
+    c.straight_fold.ensures ∙ folded st ∙ sym (folds_straight (a st) (b st) (e st) (sym (c.near_sign.ensures ∙ signs st) ∙ c.in-Zero.is))
 
-returns_3 : tie.Need-returns-3
-returns_3 c = let st = c.before.before.before in sym (folds_bent (a st) (b st) (e st) Negative (sym (c.before.before.near-sign.ensures ∙ signs st) ∙ c.enum-told3.given.1) refl)
+returns_3 : tie.Need-returns-in-Negative
+returns_3 c = let st = c.before.before in sym (folds_bent (a st) (b st) (e st) Negative (sym (c.near_sign.ensures ∙ signs st) ∙ c.in-Negative.is) refl)
 
 pub fold_spec : {M : Type 1} → statement M
 fold_spec =

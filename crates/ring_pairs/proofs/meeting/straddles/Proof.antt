@@ -37,35 +37,35 @@ module _ (st : tie.Start) where
   f' = raw st.args.dx st.args.dy
 
   forth : aside (D a' b' e') (D a' b' f') ≡ aside (D a b e) (D a b f)
-  forth = rw (raw_is st.fits.ax st.fits.ay, raw_is st.fits.bx st.fits.by, raw_is st.fits.cx st.fits.cy, raw_is st.fits.dx st.fits.dy)
+  forth = rw (raw_is st.ranges.ax st.ranges.ay, raw_is st.ranges.bx st.ranges.by, raw_is st.ranges.cx st.ranges.cy, raw_is st.ranges.dx st.ranges.dy)
 
   back : aside (D e' f' a') (D e' f' b') ≡ aside (D e f a) (D e f b)
-  back = rw (raw_is st.fits.ax st.fits.ay, raw_is st.fits.bx st.fits.by, raw_is st.fits.cx st.fits.cy, raw_is st.fits.dx st.fits.dy)
+  back = rw (raw_is st.ranges.ax st.ranges.ay, raw_is st.ranges.bx st.ranges.by, raw_is st.ranges.cx st.ranges.cy, raw_is st.ranges.dx st.ranges.dy)
 
   forth_near : AllNear a' b' e' f'
-  forth_near = rw (raw_is st.fits.ax st.fits.ay, raw_is st.fits.bx st.fits.by, raw_is st.fits.cx st.fits.cy, raw_is st.fits.dx st.fits.dy) st.pre
+  forth_near = rw (raw_is st.ranges.ax st.ranges.ay, raw_is st.ranges.bx st.ranges.by, raw_is st.ranges.cx st.ranges.cy, raw_is st.ranges.dx st.ranges.dy) st.requires
 
   back_near : AllNear e' f' a' b'
-  back_near = rw (raw_is st.fits.ax st.fits.ay, raw_is st.fits.bx st.fits.by, raw_is st.fits.cx st.fits.cy, raw_is st.fits.dx st.fits.dy) (near_back st.pre)
+  back_near = rw (raw_is st.ranges.ax st.ranges.ay, raw_is st.ranges.bx st.ranges.by, raw_is st.ranges.cx st.ranges.cy, raw_is st.ranges.dx st.ranges.dy) (near_back st.requires)
 
-both_aside_requires : tie.Need-both-aside-requires
+both_aside_requires : tie.Need-both_aside-requires
 both_aside_requires c κs = forth_near c
 
-returns : tie.Need-returns
-returns c = let st = c.before.before in sym (aside_first (a st) (b st) (e st) (f st) (sym (forth st) ∙ sym c.before.both-aside.ensures ∙ c.if1.true))
+returns : tie.Need-returns-then-both_aside
+returns c = let st = c.before.before in sym (aside_first (a st) (b st) (e st) (f st) (sym (forth st) ∙ sym c.both_aside.ensures ∙ c.if-both_aside.true))
 
-both_aside_requires_2 : tie.Need-both-aside-requires-2
+both_aside_requires_2 : tie.Need-both_aside-requires-2
 both_aside_requires_2 c κs = back_near c.before.before
 
-returns_2 : tie.Need-returns-2
-returns_2 c = let st = c.before.before.before.before in sym (aside_second (a st) (b st) (e st) (f st) (sym (back st) ∙ sym c.before.both-aside2.ensures ∙ c.if2.true))
+returns_2 : tie.Need-returns-then-both_aside-2
+returns_2 c = let st = c.before.before.before.before in sym (aside_second (a st) (b st) (e st) (f st) (sym (back st) ∙ sym c.both_aside-2.ensures ∙ c.if-both_aside-2.true))
 
-returns_3 : tie.Need-returns-3
+returns_3 : tie.Need-returns
 returns_3 c =
     let st = c.before.before.before.before in
     sym (aside_neither (a st) (b st) (e st) (f st)
-    (sym (forth st) ∙ sym c.before.before.before.both-aside.ensures ∙ c.before.before.if1.false)
-    (sym (back st) ∙ sym c.before.both-aside2.ensures ∙ c.if2.false))
+    (sym (forth st) ∙ sym c.both_aside.ensures ∙ c.if-both_aside.false)
+    (sym (back st) ∙ sym c.both_aside-2.ensures ∙ c.if-both_aside-2.false))
 
 pub straddles_spec : {M : Type 1} → statement M
 straddles_spec =

@@ -32,24 +32,24 @@ module _ (st : tie.Start) where
   e' = raw st.args.cx st.args.cy
 
   lengths : no_length a' b' ≡ no_length a b
-  lengths = rw (raw_is st.fits.ax st.fits.ay, raw_is st.fits.bx st.fits.by)
+  lengths = rw (raw_is st.ranges.ax st.ranges.ay, raw_is st.ranges.bx st.ranges.by)
 
   backs : lt_z (ahead a' b' e') (pos 0) ≡ lt_z (ahead a b e) (pos 0)
-  backs = rw (raw_is st.fits.ax st.fits.ay, raw_is st.fits.bx st.fits.by, raw_is st.fits.cx st.fits.cy)
+  backs = rw (raw_is st.ranges.ax st.ranges.ay, raw_is st.ranges.bx st.ranges.by, raw_is st.ranges.cx st.ranges.cy)
 
 same_requires : tie.Need-same-requires
 same_requires c κs = search rules
 
-returns : tie.Need-returns
-returns c = let st = c.before.before in sym (straight_none (a st) (b st) (e st) (sym (lengths st) ∙ sym c.before.same.ensures ∙ c.if1.true))
+returns : tie.Need-returns-then-same
+returns c = let st = c.before.before in sym (straight_none (a st) (b st) (e st) (sym (lengths st) ∙ sym c.same.ensures ∙ c.if-same.true))
 
-runs_back_requires : tie.Need-runs-back-requires
+runs_back_requires : tie.Need-runs_back-requires
 runs_back_requires c κs = let st = c.before.before in rw (raw_is st.ranges.ax st.ranges.ay, raw_is st.ranges.bx st.ranges.by, raw_is st.ranges.cx st.ranges.cy) st.requires
 
-returns_2 : tie.Need-returns-2
+returns_2 : tie.Need-returns
 returns_2 c =
     let st = c.before.before.before in
-    c.runs-back.ensures ∙ backs st ∙ sym (straight_back (a st) (b st) (e st) (sym (lengths st) ∙ sym c.before.before.same.ensures ∙ c.before.if1.false))
+    c.runs_back.ensures ∙ backs st ∙ sym (straight_back (a st) (b st) (e st) (sym (lengths st) ∙ sym c.same.ensures ∙ c.if-same.false))
 
 pub straight_fold_spec : {M : Type 1} → statement M
 straight_fold_spec = tie.close (tie.spec same_requires returns runs_back_requires returns_2)

@@ -14,10 +14,10 @@ use Rattle.ring_pairs.specs.Laws.Runs.{skip_runs}
 use Rattle.ring_pairs.proofs.search.next_near.Statement.{statement}
 use Rattle.ring_pairs.proofs.search.next_near.Tie as tie
 
-abbrev invariant_loop : tie.invariant_loop
+abbrev invariant_loop : tie.invariant-loop-l
 invariant_loop corners lows highs low_x high_x low_y high_y start stop runs l₀ l = Skipped (pairs corners) (pairs corners) 1 (to_z w64 low_x) (to_z w64 high_x) (to_z w64 low_y) (to_z w64 high_y) start stop l
 
-abbrev decreases_loop : tie.decreases_loop
+abbrev decreases_loop : tie.decreases-loop-l
 decreases_loop corners lows highs low_x high_x low_y high_y start stop runs l₀ l = stop - l
 
 -- by the box as a call hands it on, and as it is
@@ -26,99 +26,99 @@ module _ (st : tie.Start invariant_loop decreases_loop) where
   First l = FirstNear (pairs st.args.corners.now) (pairs st.args.corners.now) 1 (to_z w64 (of_z w64 st.args.low_x)) (to_z w64 (of_z w64 st.args.high_x)) (to_z w64 (of_z w64 st.args.low_y)) (to_z w64 (of_z w64 st.args.high_y)) st.args.start st.args.stop l
 
   done : {l : ℕ} → First l → FirstNear (pairs st.args.corners.now) (pairs st.args.corners.now) 1 st.args.low_x st.args.high_x st.args.low_y st.args.high_y st.args.start st.args.stop l
-  done s = rw (to_z-of_z st.fits.low_x, to_z-of_z st.fits.high_x, to_z-of_z st.fits.low_y, to_z-of_z st.fits.high_y) at s
+  done s = rw (to_z-of_z st.ranges.low_x, to_z-of_z st.ranges.high_x, to_z-of_z st.ranges.low_y, to_z-of_z st.ranges.high_y) at s
 
 -- as many runs have boxes
-boxed : (c : tie.After-runs-to invariant_loop decreases_loop) → c.runs_to.result ≤ length (pairs c.before.args.lows.now)
-boxed c = let n = count_half c.before.args.lows.now in let h = c.runs_to.ensures.have_boxes in omega arith
+boxed : (c : tie.After-runs_to-runs invariant_loop decreases_loop) → c.runs_to-runs.result ≤ length (pairs c.args.lows.now)
+boxed c = let n = count_half c.args.lows.now in let h = c.runs_to-runs.ensures.have_boxes in omega arith
 
-runs_to_requires : tie.Need-runs-to-requires invariant_loop decreases_loop
+runs_to_requires : tie.Need-runs_to-runs-requires invariant_loop decreases_loop
 runs_to_requires c κs = let s = c.requires.2 in let m = c.requires.3 in omega arith
 
-loop_holds : tie.Need-loop-init invariant_loop decreases_loop
-loop_holds c = skip_start _ _ _ _ _ _ _ _ _ c.before.requires.1
+loop_holds : tie.Need-loop-l-init invariant_loop decreases_loop
+loop_holds c = skip_start _ _ _ _ _ _ _ _ _ c.requires.1
 
-first_near_requires : tie.Need-first-near-requires invariant_loop decreases_loop
+first_near_requires : tie.Need-first_near-requires invariant_loop decreases_loop
 first_near_requires c κs =
     let at = c.before.before in
-    let s = at.before.before.requires.2 in
-    let m = at.before.before.requires.3 in
-    (at.loop.invariant.high, omega arith, omega arith, omega arith)
+    let s = at.requires.2 in
+    let m = at.requires.3 in
+    (at.loop-l.invariant.high, omega arith, omega arith, omega arith)
 
-returns : tie.Need-returns invariant_loop decreases_loop
+returns : tie.Need-returns-then-runs-m invariant_loop decreases_loop
 returns c =
     let at = c.before.before.before in
     let st = at.before.before in
-    done st (near_join at.loop.invariant c.first_near.ensures (le_refl st.args.stop) (λ h. h))
+    done st (near_join at.loop-l.invariant c.first_near.ensures (le_refl st.args.stop) (λ h. h))
 
-first_near_requires_2 : tie.Need-first-near-requires-2 invariant_loop decreases_loop
+first_near_requires_2 : tie.Need-first_near-n-requires invariant_loop decreases_loop
 first_near_requires_2 c κs =
     let r = c.before.before.before in
     let b = boxed r in
-    let a = r.before.requires.0.as_many in
-    let m = r.runs_to.ensures.at_most in
-    let h = c.if1.false in
+    let a = r.requires.0.as_many in
+    let m = r.runs_to-runs.ensures.at_most in
+    let h = c.if-runs-m.false in
     (omega arith, b, omega arith, omega arith)
 
-sub_run_end : tie.Need-overflow-sub-run-end invariant_loop decreases_loop
-sub_run_end c = let h = c.if2.true in omega arith
+sub_run_end : tie.Need-overflow_sub-n invariant_loop decreases_loop
+sub_run_end c = let h = c.if-m-n.true in omega arith
 
-run_end_requires : tie.Need-run-end-requires invariant_loop decreases_loop
-run_end_requires c κs = let n = c.before.first-near2.ensures.passed.high in let m = c.before.before.before.before.before.runs_to.ensures.at_most in let h = c.if2.true in omega arith
+run_end_requires : tie.Need-run_end-l-requires invariant_loop decreases_loop
+run_end_requires c κs = let n = c.first_near-n.ensures.passed.high in let m = c.runs_to-runs.ensures.at_most in let h = c.if-m-n.true in omega arith
 
-loop_less : tie.Need-loop-smaller invariant_loop decreases_loop
+loop_less : tie.Need-loop-l-smaller-then-m-n invariant_loop decreases_loop
 loop_less c =
     let at = c.before.before.before.before.before in
-    let t = c.before.before.before.before.loop-test.true in
-    let h = c.before.if2.true in
-    let g = c.run-end.ensures.whole (at.loop.l + 1) (omega arith) (omega arith) in
+    let t = c.loop-l-test.true in
+    let h = c.if-m-n.true in
+    let g = c.run_end-l.ensures.whole (at.loop-l.l + 1) (omega arith) (omega arith) in
     omega arith
 
-loop_again : tie.Need-loop-preserved invariant_loop decreases_loop
+loop_again : tie.Need-loop-l-preserved-then-m-n invariant_loop decreases_loop
 loop_again c =
     let f = c.before.before in
     let at = f.before.before.before in
     let st = at.before.before in
-    skip_join at.loop.invariant (skip_runs st.requires.0 f.first-near2.ensures.passed (boxed at.before) c.before.if2.true c.run-end.ensures f.before.before.loop-test.true st.requires.2) (le_refl st.args.stop)
+    skip_join at.loop-l.invariant (skip_runs st.requires.0 f.first_near-n.ensures.passed (boxed at.before) c.if-m-n.true c.run_end-l.ensures f.loop-l-test.true st.requires.2) (le_refl st.args.stop)
 
-run_end_requires_2 : tie.Need-run-end-requires-2 invariant_loop decreases_loop
-run_end_requires_2 c κs = let f = c.before in let m = f.before.before.before.before.runs_to.ensures.at_most in let h = f.before.if1.false in omega arith
+run_end_requires_2 : tie.Need-run_end-end-requires invariant_loop decreases_loop
+run_end_requires_2 c κs = let f = c.before in let m = f.runs_to-runs.ensures.at_most in let h = f.if-runs-m.false in omega arith
 
-first_near_requires_3 : tie.Need-first-near-requires-3 invariant_loop decreases_loop
+first_near_requires_3 : tie.Need-first_near-l-requires invariant_loop decreases_loop
 first_near_requires_3 c κs =
     let f = c.before.before in
     let at = f.before.before.before in
-    let t = f.before.before.loop-test.true in
-    let e = c.run-end2.ensures in
+    let t = f.loop-l-test.true in
+    let e = c.run_end-end.ensures in
     let r = e.in_reach in
-    let s = at.before.before.requires.2 in
-    let m = at.before.before.requires.3 in
-    (e.whole at.loop.l (omega arith) (omega arith), omega arith, omega arith, omega arith)
+    let s = at.requires.2 in
+    let m = at.requires.3 in
+    (e.whole at.loop-l.l (omega arith) (omega arith), omega arith, omega arith, omega arith)
 
-returns_2 : tie.Need-returns-2 invariant_loop decreases_loop
+returns_2 : tie.Need-returns-then-l-end invariant_loop decreases_loop
 returns_2 c =
     let e = c.before.before in
     let at = e.before.before.before.before.before in
-    done at.before.before (near_join at.loop.invariant c.before.first-near3.ensures e.run-end2.ensures.in_reach (λ h. c.if3.true))
+    done at.before.before (near_join at.loop-l.invariant c.first_near-l.ensures e.run_end-end.ensures.in_reach (λ h. c.if-l-end.true))
 
-loop_less_2 : tie.Need-loop-smaller-2 invariant_loop decreases_loop
+loop_less_2 : tie.Need-loop-l-smaller invariant_loop decreases_loop
 loop_less_2 c =
     let e = c.before.before in
     let f = e.before.before in
     let at = f.before.before.before in
-    let t = f.before.before.loop-test.true in
-    let h = c.if3.false in
-    let g = e.run-end2.ensures.whole (at.loop.l + 1) (omega arith) (omega arith) in
+    let t = f.loop-l-test.true in
+    let h = c.if-l-end.false in
+    let g = e.run_end-end.ensures.whole (at.loop-l.l + 1) (omega arith) (omega arith) in
     omega arith
 
-loop_again_2 : tie.Need-loop-preserved-2 invariant_loop decreases_loop
+loop_again_2 : tie.Need-loop-l-preserved invariant_loop decreases_loop
 loop_again_2 c =
     let e = c.before.before in
     let at = e.before.before.before.before.before in
-    skip_join at.loop.invariant c.before.first-near3.ensures.passed e.run-end2.ensures.in_reach
+    skip_join at.loop-l.invariant c.first_near-l.ensures.passed e.run_end-end.ensures.in_reach
 
-returns_3 : tie.Need-returns-3 invariant_loop decreases_loop
-returns_3 c = done c.before.before.before (skip_end c.before.loop.invariant c.loop-test.false)
+returns_3 : tie.Need-returns invariant_loop decreases_loop
+returns_3 c = done c.before.before.before (skip_end c.loop-l.invariant c.loop-l-test.false)
 
 pub next_near_spec : {M : Type 1} → statement M
 next_near_spec =

@@ -1,4 +1,5 @@
 -- The numbers read are those of the four corners. Assumes nothing.
+use mir.Syntax.{w64}
 use mathlib.Core.Path.{◌≡◌}
 use mathlib.Core.List.{List}
 use lib.ListN.{get_or}
@@ -10,48 +11,48 @@ use Rattle.ring_pairs.proofs.search.straddle_at.Statement.{statement}
 use Rattle.ring_pairs.proofs.search.straddle_at.Tie as tie
 
 -- the corners that were read
-module _ (c : tie.After-y-at4) where
+module _ (c : tie.After-y_at-dy) where
   abbrev st : tie.Start
   st = c.before.before.before.before.before.before.before.before
 
   abbrev r : List Corner
   r = pairs st.args.corners.now
 
-  at_i : raw c.before.before.before.before.before.before.before.x-at.result c.before.before.before.before.before.before.y-at.result ≡ get_or r st.args.i origin
-  at_i = made (held (record { sfits = c.before.before.before.before.before.before.before.x-at.type-inv }) c.before.before.before.before.before.before.before.x-at.ensures) (held (record { sfits = c.before.before.before.before.before.before.y-at.type-inv }) c.before.before.before.before.before.before.y-at.ensures)
+  at_i : raw c.x_at-ax.result c.y_at-ay.result ≡ get_or r st.args.i origin
+  at_i = made (held {w = w64} (record { sfits = c.x_at-ax.type_inv }) c.x_at-ax.ensures) (held {w = w64} (record { sfits = c.y_at-ay.type_inv }) c.y_at-ay.ensures)
 
-  at_j : raw c.before.before.before.before.before.x-at2.result c.before.before.before.before.y-at2.result ≡ get_or r st.args.j origin
-  at_j = made (held (record { sfits = c.before.before.before.before.before.x-at2.type-inv }) c.before.before.before.before.before.x-at2.ensures) (held (record { sfits = c.before.before.before.before.y-at2.type-inv }) c.before.before.before.before.y-at2.ensures)
+  at_j : raw c.x_at-bx.result c.y_at-by.result ≡ get_or r st.args.j origin
+  at_j = made (held {w = w64} (record { sfits = c.x_at-bx.type_inv }) c.x_at-bx.ensures) (held {w = w64} (record { sfits = c.y_at-by.type_inv }) c.y_at-by.ensures)
 
-  at_k : raw c.before.before.before.x-at3.result c.before.before.y-at3.result ≡ get_or r st.args.k origin
-  at_k = made (held (record { sfits = c.before.before.before.x-at3.type-inv }) c.before.before.before.x-at3.ensures) (held (record { sfits = c.before.before.y-at3.type-inv }) c.before.before.y-at3.ensures)
+  at_k : raw c.x_at-cx.result c.y_at-cy.result ≡ get_or r st.args.k origin
+  at_k = made (held {w = w64} (record { sfits = c.x_at-cx.type_inv }) c.x_at-cx.ensures) (held {w = w64} (record { sfits = c.y_at-cy.type_inv }) c.y_at-cy.ensures)
 
-  at_l : raw c.before.x-at4.result c.y-at4.result ≡ get_or r st.args.l origin
-  at_l = made (held (record { sfits = c.before.x-at4.type-inv }) c.before.x-at4.ensures) (held (record { sfits = c.y-at4.type-inv }) c.y-at4.ensures)
+  at_l : raw c.x_at-dx.result c.y_at-dy.result ≡ get_or r st.args.l origin
+  at_l = made (held {w = w64} (record { sfits = c.x_at-dx.type_inv }) c.x_at-dx.ensures) (held {w = w64} (record { sfits = c.y_at-dy.type_inv }) c.y_at-dy.ensures)
 
-x_at_requires : tie.Need-x-at-requires
+x_at_requires : tie.Need-x_at-ax-requires
 x_at_requires c κs = c.requires.1
 
-y_at_requires : tie.Need-y-at-requires
-y_at_requires c κs = c.before.requires.1
+y_at_requires : tie.Need-y_at-ay-requires
+y_at_requires c κs = c.requires.1
 
-x_at_requires_2 : tie.Need-x-at-requires-2
-x_at_requires_2 c κs = c.before.before.requires.2
+x_at_requires_2 : tie.Need-x_at-bx-requires
+x_at_requires_2 c κs = c.requires.2
 
-y_at_requires_2 : tie.Need-y-at-requires-2
-y_at_requires_2 c κs = c.before.before.before.requires.2
+y_at_requires_2 : tie.Need-y_at-by-requires
+y_at_requires_2 c κs = c.requires.2
 
-x_at_requires_3 : tie.Need-x-at-requires-3
-x_at_requires_3 c κs = c.before.before.before.before.requires.3
+x_at_requires_3 : tie.Need-x_at-cx-requires
+x_at_requires_3 c κs = c.requires.3
 
-y_at_requires_3 : tie.Need-y-at-requires-3
-y_at_requires_3 c κs = c.before.before.before.before.before.requires.3
+y_at_requires_3 : tie.Need-y_at-cy-requires
+y_at_requires_3 c κs = c.requires.3
 
-x_at_requires_4 : tie.Need-x-at-requires-4
-x_at_requires_4 c κs = c.before.before.before.before.before.before.requires.4
+x_at_requires_4 : tie.Need-x_at-dx-requires
+x_at_requires_4 c κs = c.requires.4
 
-y_at_requires_4 : tie.Need-y-at-requires-4
-y_at_requires_4 c κs = c.before.before.before.before.before.before.before.requires.4
+y_at_requires_4 : tie.Need-y_at-dy-requires
+y_at_requires_4 c κs = c.requires.4
 
 straddles_requires : tie.Need-straddles-requires
 straddles_requires c κs =

@@ -13,44 +13,44 @@ use Rattle.ring_placing.proofs.edge.meets_ring.Statement.{statement}
 use Rattle.ring_placing.proofs.edge.meets_ring.Tie as tie
 
 -- the corners that were read
-module _ (c : tie.After-y-at2) where
+module _ (c : tie.After-y_at-by) where
   abbrev st : tie.Start
   st = c.before.before.before.before
 
   abbrev r : List Corner
   r = pairs st.args.corners.now
 
-  at_i : raw c.before.before.before.x-at.result c.before.before.y-at.result ≡ get_or r st.args.i origin
-  at_i = made (held (record { sfits = c.before.before.before.x-at.type-inv }) c.before.before.before.x-at.ensures) (held (record { sfits = c.before.before.y-at.type-inv }) c.before.before.y-at.ensures)
+  at_i : raw c.x_at-ax.result c.y_at-ay.result ≡ get_or r st.args.i origin
+  at_i = made (held {w = w64} (record { sfits = c.x_at-ax.type_inv }) c.x_at-ax.ensures) (held {w = w64} (record { sfits = c.y_at-ay.type_inv }) c.y_at-ay.ensures)
 
-  at_j : raw c.before.x-at2.result c.y-at2.result ≡ get_or r st.args.j origin
-  at_j = made (held (record { sfits = c.before.x-at2.type-inv }) c.before.x-at2.ensures) (held (record { sfits = c.y-at2.type-inv }) c.y-at2.ensures)
+  at_j : raw c.x_at-bx.result c.y_at-by.result ≡ get_or r st.args.j origin
+  at_j = made (held {w = w64} (record { sfits = c.x_at-bx.type_inv }) c.x_at-bx.ensures) (held {w = w64} (record { sfits = c.y_at-by.type_inv }) c.y_at-by.ensures)
 
 -- the box that was made of them
-module _ (c : tie.After-greater2) where
-  abbrev ends : tie.After-y-at2
+module _ (c : tie.After-greater-2) where
+  abbrev ends : tie.After-y_at-by
   ends = c.before.before.before.before
 
-  box : BoxOf (raw ends.before.before.before.x-at.result ends.before.before.y-at.result) (raw ends.before.x-at2.result ends.y-at2.result)
-      (to_z w64 (of_z w64 c.before.before.before.lesser.result)) (to_z w64 (of_z w64 c.before.before.greater.result)) (to_z w64 (of_z w64 c.before.lesser2.result)) (to_z w64 (of_z w64 c.greater2.result))
+  box : BoxOf (raw ends.x_at-ax.result ends.y_at-ay.result) (raw ends.x_at-bx.result ends.y_at-by.result)
+      (to_z w64 (of_z w64 c.lesser.result)) (to_z w64 (of_z w64 c.greater.result)) (to_z w64 (of_z w64 c.lesser-2.result)) (to_z w64 (of_z w64 c.greater-2.result))
   box = record {
-    low_x_is = held (record { sfits = c.before.before.before.lesser.type-inv }) c.before.before.before.lesser.ensures;
-    high_x_is = held (record { sfits = c.before.before.greater.type-inv }) c.before.before.greater.ensures;
-    low_y_is = held (record { sfits = c.before.lesser2.type-inv }) c.before.lesser2.ensures;
-    high_y_is = held (record { sfits = c.greater2.type-inv }) c.greater2.ensures;
+    low_x_is = held {w = w64} (record { sfits = c.lesser.type_inv }) c.lesser.ensures;
+    high_x_is = held {w = w64} (record { sfits = c.greater.type_inv }) c.greater.ensures;
+    low_y_is = held {w = w64} (record { sfits = c.lesser-2.type_inv }) c.lesser-2.ensures;
+    high_y_is = held {w = w64} (record { sfits = c.greater-2.type_inv }) c.greater-2.ensures;
   }
 
-x_at_requires : tie.Need-x-at-requires
+x_at_requires : tie.Need-x_at-ax-requires
 x_at_requires c κs = c.requires.2
 
-y_at_requires : tie.Need-y-at-requires
-y_at_requires c κs = c.before.requires.2
+y_at_requires : tie.Need-y_at-ay-requires
+y_at_requires c κs = c.requires.2
 
-x_at_requires_2 : tie.Need-x-at-requires-2
-x_at_requires_2 c κs = c.before.before.requires.3
+x_at_requires_2 : tie.Need-x_at-bx-requires
+x_at_requires_2 c κs = c.requires.3
 
-y_at_requires_2 : tie.Need-y-at-requires-2
-y_at_requires_2 c κs = c.before.before.before.requires.3
+y_at_requires_2 : tie.Need-y_at-by-requires
+y_at_requires_2 c κs = c.requires.3
 
 lesser_requires : tie.Need-lesser-requires
 lesser_requires c κs = search rules
@@ -64,14 +64,14 @@ lesser_requires_2 c κs = search rules
 greater_requires_2 : tie.Need-greater-requires-2
 greater_requires_2 c κs = search rules
 
-meets_by_box_requires : tie.Need-meets-by-box-requires
+meets_by_box_requires : tie.Need-meets_by_box-requires
 meets_by_box_requires c κs =
     let e = ends c in
-    let p = (st e).pre in
+    let p = (st e).requires in
     (p.1, rw (at_i e, at_j e) (p.0.near (st e).args.j (st e).args.i p.3 p.2), box c, p.4)
 
 returns : tie.Need-returns
-returns c = let e = ends c.before in rw (at_i e, at_j e) at c.meets-by-box.ensures
+returns c = let e = ends c.before in rw (at_i e, at_j e) at c.meets_by_box.ensures
 
 pub meets_ring_spec : {M : Type 1} → statement M
 meets_ring_spec =

@@ -1,4 +1,5 @@
 -- Where the boxes touch, the corners are near enough and the sides decide. Assumes nothing.
+use mir.Syntax.{w64}
 use mathlib.Core.Path.{◌≡◌, sym, ◌∙◌}
 use mathlib.Core.List.{List}
 use lib.ListN.{get_or}
@@ -11,7 +12,7 @@ use Rattle.ring_placing.proofs.edge.meets_touching.Statement.{statement}
 use Rattle.ring_placing.proofs.edge.meets_touching.Tie as tie
 
 -- the corners that were lent and those that were read
-module _ (c : tie.After-y-at2) where
+module _ (c : tie.After-y_at-dy) where
   abbrev st : tie.Start
   st = c.before.before.before.before
 
@@ -25,28 +26,28 @@ module _ (c : tie.After-y-at2) where
   b = corner st.args.bx st.args.by
 
   at_a : raw st.args.ax st.args.ay ≡ a
-  at_a = raw_is st.fits.ax st.fits.ay
+  at_a = raw_is st.ranges.ax st.ranges.ay
 
   at_b : raw st.args.bx st.args.by ≡ b
-  at_b = raw_is st.fits.bx st.fits.by
+  at_b = raw_is st.ranges.bx st.ranges.by
 
-  at_i : raw c.before.before.before.x-at.result c.before.before.y-at.result ≡ get_or r st.args.i origin
-  at_i = made (held (record { sfits = c.before.before.before.x-at.type-inv }) c.before.before.before.x-at.ensures) (held (record { sfits = c.before.before.y-at.type-inv }) c.before.before.y-at.ensures)
+  at_i : raw c.x_at-cx.result c.y_at-cy.result ≡ get_or r st.args.i origin
+  at_i = made (held {w = w64} (record { sfits = c.x_at-cx.type_inv }) c.x_at-cx.ensures) (held {w = w64} (record { sfits = c.y_at-cy.type_inv }) c.y_at-cy.ensures)
 
-  at_j : raw c.before.x-at2.result c.y-at2.result ≡ get_or r st.args.j origin
-  at_j = made (held (record { sfits = c.before.x-at2.type-inv }) c.before.x-at2.ensures) (held (record { sfits = c.y-at2.type-inv }) c.y-at2.ensures)
+  at_j : raw c.x_at-dx.result c.y_at-dy.result ≡ get_or r st.args.j origin
+  at_j = made (held {w = w64} (record { sfits = c.x_at-dx.type_inv }) c.x_at-dx.ensures) (held {w = w64} (record { sfits = c.y_at-dy.type_inv }) c.y_at-dy.ensures)
 
-x_at_requires : tie.Need-x-at-requires
+x_at_requires : tie.Need-x_at-cx-requires
 x_at_requires c κs = c.requires.1
 
-y_at_requires : tie.Need-y-at-requires
-y_at_requires c κs = c.before.requires.1
+y_at_requires : tie.Need-y_at-cy-requires
+y_at_requires c κs = c.requires.1
 
-x_at_requires_2 : tie.Need-x-at-requires-2
-x_at_requires_2 c κs = c.before.before.requires.2
+x_at_requires_2 : tie.Need-x_at-dx-requires
+x_at_requires_2 c κs = c.requires.2
 
-y_at_requires_2 : tie.Need-y-at-requires-2
-y_at_requires_2 c κs = c.before.before.before.requires.2
+y_at_requires_2 : tie.Need-y_at-dy-requires
+y_at_requires_2 c κs = c.requires.2
 
 straddles_requires : tie.Need-straddles-requires
 straddles_requires c κs =

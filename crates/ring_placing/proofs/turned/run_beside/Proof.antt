@@ -1,4 +1,5 @@
 -- Each test that tells a run's box away, by what it says. Assumes nothing.
+use mir.Syntax.{w64}
 use mathlib.Core.Path.{◌≡◌, sym, subst}
 use mathlib.Core.Bool.{true, false}
 use mathlib.Core.Logic.{inl, inr}
@@ -22,54 +23,54 @@ no e = subst T (sym e) tt
 box : (l : List ℤ) {m : ℕ} → m < length l / 2 → m < length (pairs l)
 box l h = let n = count_half l in omega arith
 
-returns : tie.Need-returns
+returns : tie.Need-returns-then-lows-m
 returns c = λ e. absurd (no e)
 
-x_at_requires : tie.Need-x-at-requires
-x_at_requires c κs = box c.before.args.lows.now c.if1.false
+x_at_requires : tie.Need-x_at-requires
+x_at_requires c κs = box c.args.lows.now c.if-lows-m.false
 
-returns_2 : tie.Need-returns-2
+returns_2 : tie.Need-returns-then-px-x_at
 returns_2 c =
     let t = c.before in
     let st = t.before.before in λ e.
     record {
-      has_box = box st.args.lows.now t.before.if1.false;
-      off = inl (subst (λ (z : ℤ). st.args.px <ℤ z) t.x-at.ensures (lt_yes (v_fit st.ranges.px) (v_fit (record { sfits = t.x-at.type-inv })) c.if2.true));
+      has_box = box st.args.lows.now t.if-lows-m.false;
+      off = inl (subst (λ (z : ℤ). st.args.px <ℤ z) t.x_at.ensures (lt_yes (v_fit st.ranges.px) (v_fit {w = w64} (record { sfits = t.x_at.type_inv })) c.if-px-x_at.true));
     }
 
-x_at_requires_2 : tie.Need-x-at-requires-2
+x_at_requires_2 : tie.Need-x_at-requires-2
 x_at_requires_2 c κs =
     let st = c.before.before.before in
-    let h = box st.args.lows.now c.before.before.if1.false in
+    let h = box st.args.lows.now c.if-lows-m.false in
     let n = st.requires in
     omega arith
 
-returns_3 : tie.Need-returns-3
+returns_3 : tie.Need-returns-then-x_at-px
 returns_3 c =
     let t = c.before in
     let i = t.before.before.before in
     let st = i.before in λ e.
     record {
-      has_box = box st.args.lows.now i.if1.false;
-      off = inr (inl (subst (λ (z : ℤ). z <ℤ st.args.px) t.x-at2.ensures (lt_yes (v_fit (record { sfits = t.x-at2.type-inv })) (v_fit st.ranges.px) c.if3.true)));
+      has_box = box st.args.lows.now i.if-lows-m.false;
+      off = inr (inl (subst (λ (z : ℤ). z <ℤ st.args.px) t.x_at-2.ensures (lt_yes (v_fit {w = w64} (record { sfits = t.x_at-2.type_inv })) (v_fit st.ranges.px) c.if-x_at-px.true)));
     }
 
-y_at_requires : tie.Need-y-at-requires
+y_at_requires : tie.Need-y_at-requires
 y_at_requires c κs =
     let i = c.before.before.before.before in
-    box i.before.args.lows.now i.if1.false
+    box i.args.lows.now i.if-lows-m.false
 
-returns_4 : tie.Need-returns-4
+returns_4 : tie.Need-returns-then-py-y_at
 returns_4 c =
     let t = c.before in
     let i = t.before.before.before.before.before in
     let st = i.before in λ e.
     record {
-      has_box = box st.args.lows.now i.if1.false;
-      off = inr (inr (subst (λ (z : ℤ). st.args.py <ℤ z) t.y-at.ensures (lt_yes (v_fit st.ranges.py) (v_fit (record { sfits = t.y-at.type-inv })) c.if4.true)));
+      has_box = box st.args.lows.now i.if-lows-m.false;
+      off = inr (inr (subst (λ (z : ℤ). st.args.py <ℤ z) t.y_at.ensures (lt_yes (v_fit st.ranges.py) (v_fit {w = w64} (record { sfits = t.y_at.type_inv })) c.if-py-y_at.true)));
     }
 
-returns_5 : tie.Need-returns-5
+returns_5 : tie.Need-returns
 returns_5 c = λ e. absurd (no e)
 
 pub run_beside_spec : {M : Type 1} → statement M

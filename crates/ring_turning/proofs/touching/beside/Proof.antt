@@ -31,26 +31,26 @@ module _ (st : tie.Start) where
   p' = raw st.args.px st.args.py
 
   in_x : between a'.x b'.x p'.x ≡ between a.x b.x p.x
-  in_x = rw (to_z-of_z st.fits.ax, to_z-of_z st.fits.bx, to_z-of_z st.fits.px)
+  in_x = rw (to_z-of_z st.ranges.ax, to_z-of_z st.ranges.bx, to_z-of_z st.ranges.px)
 
   same : touch_of p' (a' to b') ≡ touch_of p (a to b)
-  same = rw (raw_is st.fits.ax st.fits.ay, raw_is st.fits.bx st.fits.by, raw_is st.fits.px st.fits.py)
+  same = rw (raw_is st.ranges.ax st.ranges.ay, raw_is st.ranges.bx st.ranges.by, raw_is st.ranges.px st.ranges.py)
 
 amid_requires : tie.Need-amid-requires
 amid_requires c κs = search rules
 
-beside_in_x_requires : tie.Need-beside-in-x-requires
+beside_in_x_requires : tie.Need-beside_in_x-requires
 beside_in_x_requires c κs =
     let st = c.before.before in
-    rw (to_z-of_z st.ranges.ax, to_z-of_z st.ranges.ay, to_z-of_z st.ranges.bx, to_z-of_z st.ranges.by, to_z-of_z st.ranges.px, to_z-of_z st.ranges.py) (st.requires.0, sym (in_x st) ∙ sym c.before.amid.ensures ∙ c.if1.true, st.requires.1)
+    rw (to_z-of_z st.ranges.ax, to_z-of_z st.ranges.ay, to_z-of_z st.ranges.bx, to_z-of_z st.ranges.by, to_z-of_z st.ranges.px, to_z-of_z st.ranges.py) (st.requires.0, sym (in_x st) ∙ sym c.amid.ensures ∙ c.if-amid.true, st.requires.1)
 
-returns : tie.Need-returns
-returns c = c.beside-in-x.ensures ∙ same c.before.before.before
+returns : tie.Need-returns-then-amid
+returns c = c.beside_in_x.ensures ∙ same c.before.before.before
 
-returns_2 : tie.Need-returns-2
+returns_2 : tie.Need-returns
 returns_2 c =
     let st = c.before.before in
-    sym (touch_off_x (a st) (b st) (p st) st.requires.1 (sym (in_x st) ∙ sym c.before.amid.ensures ∙ c.if1.false))
+    sym (touch_off_x (a st) (b st) (p st) st.requires.1 (sym (in_x st) ∙ sym c.amid.ensures ∙ c.if-amid.false))
 
 pub beside_spec : {M : Type 1} → statement M
 beside_spec = tie.close (tie.spec amid_requires beside_in_x_requires returns returns_2)

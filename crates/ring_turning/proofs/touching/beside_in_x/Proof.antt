@@ -32,34 +32,34 @@ module _ (st : tie.Start) where
   p' = raw st.args.px st.args.py
 
   forth : sign_of (D a' b' p') ≡ sign_of (D a b p)
-  forth = rw (raw_is st.fits.ax st.fits.ay, raw_is st.fits.bx st.fits.by, raw_is st.fits.px st.fits.py)
+  forth = rw (raw_is st.ranges.ax st.ranges.ay, raw_is st.ranges.bx st.ranges.by, raw_is st.ranges.px st.ranges.py)
 
   in_y : between a'.y b'.y p'.y ≡ between a.y b.y p.y
-  in_y = rw (to_z-of_z st.fits.ay, to_z-of_z st.fits.by, to_z-of_z st.fits.py)
+  in_y = rw (to_z-of_z st.ranges.ay, to_z-of_z st.ranges.by, to_z-of_z st.ranges.py)
 
   near : between a.y b.y p.y ≡ true → Near b' a' × Near p' a'
-  near y = rw (raw_is st.fits.ax st.fits.ay, raw_is st.fits.bx st.fits.by, raw_is st.fits.px st.fits.py) (st.pre.0, near_inside a b p st.pre.0 st.pre.1 y)
+  near y = rw (raw_is st.ranges.ax st.ranges.ay, raw_is st.ranges.bx st.ranges.by, raw_is st.ranges.px st.ranges.py) (st.requires.0, near_inside a b p st.requires.0 st.requires.1 y)
 
 amid_requires : tie.Need-amid-requires
 amid_requires c κs = search rules
 
-near_sign_requires : tie.Need-near-sign-requires
-near_sign_requires c κs = near c.before.before (sym (in_y c.before.before) ∙ sym c.before.amid.ensures ∙ c.if1.true)
+near_sign_requires : tie.Need-near_sign-requires
+near_sign_requires c κs = near c.before.before (sym (in_y c.before.before) ∙ sym c.amid.ensures ∙ c.if-amid.true)
 
 flat_requires : tie.Need-flat-requires
 flat_requires c κs = search rules
 
-returns : tie.Need-returns
+returns : tie.Need-returns-then-amid
 returns c =
     let st = c.before.before.before.before in
     c.flat.ensures
-    ∙ ap touch_flat (c.before.near-sign.ensures ∙ forth st)
-    ∙ sym (touch_flats (a st) (b st) (p st) st.requires.2 st.requires.1 (sym (in_y st) ∙ sym c.before.before.before.amid.ensures ∙ c.before.before.if1.true))
+    ∙ ap touch_flat (c.near_sign.ensures ∙ forth st)
+    ∙ sym (touch_flats (a st) (b st) (p st) st.requires.2 st.requires.1 (sym (in_y st) ∙ sym c.amid.ensures ∙ c.if-amid.true))
 
-returns_2 : tie.Need-returns-2
+returns_2 : tie.Need-returns
 returns_2 c =
     let st = c.before.before in
-    sym (touch_off_y (a st) (b st) (p st) st.requires.2 (sym (in_y st) ∙ sym c.before.amid.ensures ∙ c.if1.false))
+    sym (touch_off_y (a st) (b st) (p st) st.requires.2 (sym (in_y st) ∙ sym c.amid.ensures ∙ c.if-amid.false))
 
 pub beside_in_x_spec : {M : Type 1} → statement M
 beside_in_x_spec =

@@ -34,65 +34,65 @@ module _ (st : tie.Start) where
   p' = raw st.args.px st.args.py
 
   same : touch_of p' (a' to b') ≡ touch_of p (a to b)
-  same = rw (raw_is st.fits.ax st.fits.ay, raw_is st.fits.bx st.fits.by, raw_is st.fits.px st.fits.py)
+  same = rw (raw_is st.ranges.ax st.ranges.ay, raw_is st.ranges.bx st.ranges.by, raw_is st.ranges.px st.ranges.py)
 
   flat : turn p (a to b) ≡ pos 0 → Near b' a' × (turn p' (a' to b') ≡ pos 0)
-  flat h = rw (raw_is st.fits.ax st.fits.ay, raw_is st.fits.bx st.fits.by, raw_is st.fits.px st.fits.py) (st.pre.0, h)
+  flat h = rw (raw_is st.ranges.ax st.ranges.ay, raw_is st.ranges.bx st.ranges.by, raw_is st.ranges.px st.ranges.py) (st.requires.0, h)
 
   forth : sign_of (D a' b' p') ≡ sign_of (D a b p)
-  forth = rw (raw_is st.fits.ax st.fits.ay, raw_is st.fits.bx st.fits.by, raw_is st.fits.px st.fits.py)
+  forth = rw (raw_is st.ranges.ax st.ranges.ay, raw_is st.ranges.bx st.ranges.by, raw_is st.ranges.px st.ranges.py)
 
   back : sign_of (D b' a' p') ≡ sign_of (D b a p)
-  back = rw (raw_is st.fits.ax st.fits.ay, raw_is st.fits.bx st.fits.by, raw_is st.fits.px st.fits.py)
+  back = rw (raw_is st.ranges.ax st.ranges.ay, raw_is st.ranges.bx st.ranges.by, raw_is st.ranges.px st.ranges.py)
 
   rising : a.x ≤ℤ p.x → p.x <ℤ b.x → (a'.x ≤ℤ p'.x) × (p'.x <ℤ b'.x) × Near b' a'
-  rising h k = rw (to_z-of_z st.fits.ax, to_z-of_z st.fits.ay, to_z-of_z st.fits.bx, to_z-of_z st.fits.by, to_z-of_z st.fits.px) (h, k, st.pre.0)
+  rising h k = rw (to_z-of_z st.ranges.ax, to_z-of_z st.ranges.ay, to_z-of_z st.ranges.bx, to_z-of_z st.ranges.by, to_z-of_z st.ranges.px) (h, k, st.requires.0)
 
   falling : b.x ≤ℤ p.x → p.x <ℤ a.x → (b'.x ≤ℤ p'.x) × (p'.x <ℤ a'.x) × Near a' b'
-  falling h k = rw (to_z-of_z st.fits.ax, to_z-of_z st.fits.ay, to_z-of_z st.fits.bx, to_z-of_z st.fits.by, to_z-of_z st.fits.px) (h, k, st.pre.1)
+  falling h k = rw (to_z-of_z st.ranges.ax, to_z-of_z st.ranges.ay, to_z-of_z st.ranges.bx, to_z-of_z st.ranges.by, to_z-of_z st.ranges.px) (h, k, st.requires.1)
 
-passing_sign_requires : tie.Need-passing-sign-requires
+passing_sign_requires : tie.Need-passing_sign-requires
 passing_sign_requires c κs =
     let st = c.before.before in
-    rising st (at_most st.ranges.ax st.ranges.px c.before.if1.true) (less st.ranges.px st.ranges.bx c.if2.true)
+    rising st (at_most st.ranges.ax st.ranges.px c.if-ax-px.true) (less st.ranges.px st.ranges.bx c.if-px-bx.true)
 
 rise_requires : tie.Need-rise-requires
 rise_requires c κs = search rules
 
-returns : tie.Need-returns
+returns : tie.Need-returns-then-px-bx
 returns c =
     let st = c.before.before.before.before in
     c.rise.ensures
-    ∙ ap touch_rise (c.before.passing-sign.ensures ∙ forth st)
-    ∙ sym (touch_rises (a st) (b st) (p st) (at_most st.ranges.ax st.ranges.px c.before.before.before.if1.true) (less st.ranges.px st.ranges.bx c.before.before.if2.true))
+    ∙ ap touch_rise (c.passing_sign.ensures ∙ forth st)
+    ∙ sym (touch_rises (a st) (b st) (p st) (at_most st.ranges.ax st.ranges.px c.if-ax-px.true) (less st.ranges.px st.ranges.bx c.if-px-bx.true))
 
 beside_requires : tie.Need-beside-requires
 beside_requires c κs =
     let st = c.before.before in
-    flat st (turn_south (a st) (b st) (p st) (at_most st.ranges.ax st.ranges.px c.before.if1.true) (not_less st.ranges.px st.ranges.bx c.if2.false))
+    flat st (turn_south (a st) (b st) (p st) (at_most st.ranges.ax st.ranges.px c.if-ax-px.true) (not_less st.ranges.px st.ranges.bx c.if-px-bx.false))
 
-returns_2 : tie.Need-returns-2
+returns_2 : tie.Need-returns-then-ax-px
 returns_2 c = c.beside.ensures ∙ same c.before.before.before
 
-passing_sign_requires_2 : tie.Need-passing-sign-requires-2
+passing_sign_requires_2 : tie.Need-passing_sign-requires-then-bx-px
 passing_sign_requires_2 c κs =
     let st = c.before.before in
-    falling st (at_most st.ranges.bx st.ranges.px c.if3.true) (not_at_most st.ranges.ax st.ranges.px c.before.if1.false)
+    falling st (at_most st.ranges.bx st.ranges.px c.if-bx-px.true) (not_at_most st.ranges.ax st.ranges.px c.if-ax-px.false)
 
 fall_requires : tie.Need-fall-requires
 fall_requires c κs = search rules
 
-returns_3 : tie.Need-returns-3
+returns_3 : tie.Need-returns-then-bx-px
 returns_3 c =
     let st = c.before.before.before.before in
     c.fall.ensures
-    ∙ ap touch_fall (c.before.passing-sign2.ensures ∙ back st)
-    ∙ sym (touch_falls (a st) (b st) (p st) (at_most st.ranges.bx st.ranges.px c.before.before.if3.true) (not_at_most st.ranges.ax st.ranges.px c.before.before.before.if1.false))
+    ∙ ap touch_fall (c.passing_sign-then-bx-px.ensures ∙ back st)
+    ∙ sym (touch_falls (a st) (b st) (p st) (at_most st.ranges.bx st.ranges.px c.if-bx-px.true) (not_at_most st.ranges.ax st.ranges.px c.if-ax-px.false))
 
-returns_4 : tie.Need-returns-4
+returns_4 : tie.Need-returns
 returns_4 c =
     let st = c.before.before in
-    sym (touch_north (a st) (b st) (p st) (not_at_most st.ranges.ax st.ranges.px c.before.if1.false) (not_at_most st.ranges.bx st.ranges.px c.if3.false))
+    sym (touch_north (a st) (b st) (p st) (not_at_most st.ranges.ax st.ranges.px c.if-ax-px.false) (not_at_most st.ranges.bx st.ranges.px c.if-bx-px.false))
 
 pub edge_touch_spec : {M : Type 1} → statement M
 edge_touch_spec =

@@ -5,23 +5,23 @@ use borrow.Author.Rules.{rules}
 use Rattle.ring_turning.proofs.turning.fall.Statement.{statement}
 use Rattle.ring_turning.proofs.turning.fall.Tie as tie
 
-enum_told : tie.Need-enum-told
+enum_told : tie.Need-enum_told-1
 enum_told c = search rules
 
-enum_told_2 : tie.Need-enum-told-2
+enum_told_2 : tie.Need-enum_told-in-Zero
 enum_told_2 c = search rules
 
-enum_told_3 : tie.Need-enum-told-3
+enum_told_3 : tie.Need-enum_told-in-Negative
 enum_told_3 c = search rules
 
-returns : tie.Need-returns
-returns c = sym (ap fall_of c.enum_told.given.1)
+returns : tie.Need-returns-in-Positive
+returns c = sym (ap fall_of c.in-Positive.is)
 
-returns_2 : tie.Need-returns-2
-returns_2 c = sym (ap fall_of c.enum-told2.given.1)
+returns_2 : tie.Need-returns-in-Zero
+returns_2 c = sym (ap fall_of c.in-Zero.is)
 
-returns_3 : tie.Need-returns-3
-returns_3 c = sym (ap fall_of c.enum-told3.given.1)
+returns_3 : tie.Need-returns-in-Negative
+returns_3 c = sym (ap fall_of c.in-Negative.is)
 
 pub fall_spec : {M : Type 1} → statement M
 fall_spec = tie.close (tie.spec enum_told enum_told_2 enum_told_3 returns returns_2 returns_3)

@@ -9,66 +9,66 @@ use Rattle.rings.specs.Laws.Crossed.{Searched, searched_start, searched_hit, sea
 use Rattle.rings.proofs.crossed.search.Statement.{statement}
 use Rattle.rings.proofs.crossed.search.Tie as tie
 
-abbrev invariant_loop : tie.invariant_loop
+abbrev invariant_loop : tie.invariant-loop-k
 invariant_loop corners lows highs last k₀ k = Searched (pairs corners) k × (k ≤ last)
 
-abbrev decreases_loop : tie.decreases_loop
+abbrev decreases_loop : tie.decreases-loop-k
 decreases_loop corners lows highs last k₀ k = last - k
 
 count : (st : tie.Start invariant_loop decreases_loop) → length st.args.corners.now / 2 - 1 + 1 ≡ length (pairs st.args.corners.now)
 count st = let e = half st.requires.0 in let h = first_in st.requires.0 in omega arith
 
-sub_last : tie.Need-overflow-sub-last invariant_loop decreases_loop
+sub_last : tie.Need-overflow_sub-last invariant_loop decreases_loop
 sub_last c = let e = half c.requires.0 in let h = first_in c.requires.0 in omega arith
 
-loop_holds : tie.Need-loop-init invariant_loop decreases_loop
+loop_holds : tie.Need-loop-k-init invariant_loop decreases_loop
 loop_holds c = (searched_start (pairs c.args.corners.now), omega arith)
 
-later_requires : tie.Need-later-requires invariant_loop decreases_loop
-later_requires c κs = (c.before.before.requires.0, count c.before.before, c.loop-test.true, c.before.before.requires.1)
+later_requires : tie.Need-later-l-requires invariant_loop decreases_loop
+later_requires c κs = (c.requires.0, count c.before.before, c.loop-k-test.true, c.requires.1)
 
-within : (t : tie.After-later invariant_loop decreases_loop) → t.before.before.loop.k < length (pairs t.before.before.before.args.corners.now)
-within t = let n = count t.before.before.before in let h = t.before.loop-test.true in omega arith
+within : (t : tie.After-later-l invariant_loop decreases_loop) → t.loop-k.k < length (pairs t.args.corners.now)
+within t = let n = count t.before.before.before in let h = t.loop-k-test.true in omega arith
 
-mul_result : tie.Need-overflow-mul-result invariant_loop decreases_loop
-mul_result c = let h = within c.before in let m = c.before.before.before.before.requires.0.at_most in record { fits = omega arith }
+mul_result : tie.Need-overflow_mul-result invariant_loop decreases_loop
+mul_result c = let h = within c.before in let m = c.requires.0.at_most in record { fits = omega arith }
 
-add_result : tie.Need-overflow-add-result invariant_loop decreases_loop
+add_result : tie.Need-overflow_add-result invariant_loop decreases_loop
 add_result c =
     let t = c.before in
     let n = count t.before.before.before in
     let h = within t in
-    let m = t.before.before.before.requires.0.at_most in
-    let l = c.if1.true in
+    let m = t.requires.0.at_most in
+    let l = c.if-l-last.true in
     record { fits = omega arith }
 
-returns : tie.Need-returns invariant_loop decreases_loop
+returns : tie.Need-returns-then-l-last invariant_loop decreases_loop
 returns c =
     let t = c.before in
     let n = count t.before.before.before in
-    let l = c.if1.true in
-    searched_hit t.before.before.loop.invariant.0 t.later.result (within t) t.later.ensures (omega arith) t.before.before.before.requires.0.at_most
+    let l = c.if-l-last.true in
+    searched_hit t.loop-k.invariant.0 t.later-l.result (within t) t.later-l.ensures (omega arith) t.requires.0.at_most
 
-add_k : tie.Need-overflow-add-k invariant_loop decreases_loop
-add_k c = let h = within c.before in let m = c.before.before.before.before.requires.0.at_most in omega arith
+add_k : tie.Need-overflow_add-k invariant_loop decreases_loop
+add_k c = let h = within c.before in let m = c.requires.0.at_most in omega arith
 
-loop_less : tie.Need-loop-smaller invariant_loop decreases_loop
-loop_less c = let t = c.before.before.loop-test.true in omega arith
+loop_less : tie.Need-loop-k-smaller invariant_loop decreases_loop
+loop_less c = let t = c.loop-k-test.true in omega arith
 
-loop_again : tie.Need-loop-preserved invariant_loop decreases_loop
+loop_again : tie.Need-loop-k-preserved invariant_loop decreases_loop
 loop_again c =
     let t = c.before in
     let n = count t.before.before.before in
-    let h = t.before.loop-test.true in
-    let l = c.if1.false in
-    (searched_miss t.before.before.loop.invariant.0 t.later.result (within t) t.later.ensures (omega arith), omega arith)
+    let h = t.loop-k-test.true in
+    let l = c.if-l-last.false in
+    (searched_miss t.loop-k.invariant.0 t.later-l.result (within t) t.later-l.ensures (omega arith), omega arith)
 
-returns_2 : tie.Need-returns-2 invariant_loop decreases_loop
+returns_2 : tie.Need-returns invariant_loop decreases_loop
 returns_2 c =
     let n = count c.before.before in
-    let t = c.loop-test.false in
-    let h = c.before.loop.invariant.1 in
-    searched_end c.before.loop.invariant.0 (omega arith)
+    let t = c.loop-k-test.false in
+    let h = c.loop-k.invariant.1 in
+    searched_end c.loop-k.invariant.0 (omega arith)
 
 pub search_spec : {M : Type 1} → statement M
 search_spec =

@@ -6,26 +6,26 @@ use borrow.Author.Rules.{rules}
 use Rattle.rings.proofs.crossed.search_all.Statement.{statement}
 use Rattle.rings.proofs.crossed.search_all.Tie as tie
 
-search_by_runs_requires : tie.Need-search-by-runs-requires
+search_by_runs_requires : tie.Need-search_by_runs-requires
 search_by_runs_requires c κs = search rules
 
-returns : tie.Need-returns
+returns : tie.Need-returns-then-corners-gt48
 returns c = search rules
 
-sub_none : tie.Need-overflow-sub-none
+sub_none : tie.Need-slice_bounds-none-count
 sub_none c = search rules
 
-part_none_start : tie.Need-slice-bounds-none-start
+part_none_start : tie.Need-slice_bounds-none-start
 part_none_start c = search rules
 
-part_none_end : tie.Need-slice-bounds-none-end
+part_none_end : tie.Need-slice_bounds-none-end
 part_none_end c = search rules
 
 search_requires : tie.Need-search-requires
 unfolding pairs
-search_requires c κs = (c.before.before.requires, no_boxes (pairs c.before.before.args.corners.now) [])
+search_requires c κs = (c.requires, no_boxes (pairs c.args.corners.now) [])
 
-returns_2 : tie.Need-returns-2
+returns_2 : tie.Need-returns
 returns_2 c = search rules
 
 pub search_all_spec : {M : Type 1} → statement M

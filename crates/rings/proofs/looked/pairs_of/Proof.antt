@@ -11,10 +11,10 @@ use Rattle.rings.proofs.looked.pairs_of.Tie as tie
 product : (n : ℕ) → n ≤ 1024 → n * (n - 1) ≤ 1024 * 1023
 product n h = let g : n - 1 ≤ 1023 = omega arith in mul-le-mul h g
 
-sub_result : tie.Need-overflow-sub-result
+sub_result : tie.Need-overflow_sub-result
 sub_result c = search rules
 
-mul_result : tie.Need-overflow-mul-result
+mul_result : tie.Need-overflow_mul-result
 mul_result c = let p = product c.args.edges c.requires.1 in record { fits = omega arith }
 
 returns : tie.Need-returns

@@ -12,25 +12,25 @@ use Rattle.rings.proofs.looked.place_of.Tie as tie
 fewer : (n k : ℕ) → k ≤ n → length (edge_pairs (n - k)) ≤ length (edge_pairs n)
 fewer n k h = let g = grows (n - k) k in let e : length (edge_pairs (n - k + k)) ≡ length (edge_pairs n) = ap (λ (t : ℕ). length (edge_pairs t)) (omega arith) in omega arith
 
-pairs_of_requires : tie.Need-pairs-of-requires
+pairs_of_requires : tie.Need-pairs_of-requires
 pairs_of_requires c κs = search rules
 
-sub_pairs_of : tie.Need-overflow-sub-pairs-of
+sub_pairs_of : tie.Need-overflow_sub-edges
 sub_pairs_of c = search rules
 
-pairs_of_requires_2 : tie.Need-pairs-of-requires-2
+pairs_of_requires_2 : tie.Need-pairs_of-requires-2
 pairs_of_requires_2 c κs = search rules
 
-sub_result : tie.Need-overflow-sub-result
-sub_result c = let st = c.before.before in let a = c.before.pairs_of.ensures in let b = c.pairs-of2.ensures in let h = fewer st.args.edges st.args.k (let p = st.requires.0 in let q = st.requires.1 in omega arith) in omega arith
+sub_result : tie.Need-overflow_sub-result
+sub_result c = let st = c.before.before in let a = c.pairs_of.ensures in let b = c.pairs_of-2.ensures in let h = fewer st.args.edges st.args.k (let p = st.requires.0 in let q = st.requires.1 in omega arith) in omega arith
 
-sub_result_2 : tie.Need-overflow-sub-result-2
+sub_result_2 : tie.Need-overflow_sub-result-2
 sub_result_2 c = search rules
 
-add_result : tie.Need-overflow-add-result
+add_result : tie.Need-overflow_add-result
 add_result c =
     let st = c.before.before in
-    let a = c.before.pairs_of.ensures in
+    let a = c.pairs_of.ensures in
     let m = st.requires.2 in
     let l = st.requires.1 in
     let f = few st.args.edges m in
@@ -39,8 +39,8 @@ add_result c =
 returns : tie.Need-returns
 returns c =
     let st = c.before.before in
-    let a = c.before.pairs_of.ensures in
-    let b = c.pairs-of2.ensures in
+    let a = c.pairs_of.ensures in
+    let b = c.pairs_of-2.ensures in
     let p = place_at st.args.edges st.args.k st.args.l st.requires.0 st.requires.1 in
     let h = fewer st.args.edges st.args.k (let p = st.requires.0 in let q = st.requires.1 in omega arith) in
     omega arith

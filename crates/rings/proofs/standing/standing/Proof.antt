@@ -22,94 +22,94 @@ use borrow.Author.Rules.{rules}
 use Rattle.rings.proofs.standing.standing.Statement.{statement}
 use Rattle.rings.proofs.standing.standing.Tie as tie
 
-abbrev invariant_loop : tie.invariant_loop
+abbrev invariant_loop : tie.invariant-loop-i
 invariant_loop corners px py n sum₀ i₀ sum i = Passing (pairs corners) (corner (to_z w64 px) (to_z w64 py)) (to_z w64 sum) i
 
-abbrev decreases_loop : tie.decreases_loop
+abbrev decreases_loop : tie.decreases-loop-i
 decreases_loop corners px py n sum₀ i₀ sum i = n - i
 
-inside : (c : tie.In-loop invariant_loop decreases_loop) → c.before.loop.i < length (pairs c.before.before.args.corners.now)
-inside c = let e = half c.before.before.requires in let h = c.loop-test.true in omega arith
+inside : (c : tie.In-loop-i invariant_loop decreases_loop) → c.loop-i.i < length (pairs c.args.corners.now)
+inside c = let e = half c.requires in let h = c.loop-i-test.true in omega arith
 
-at_end : (c : tie.After-loop invariant_loop decreases_loop) → length (pairs c.before.before.args.corners.now) ≤ c.before.loop.i
-at_end c = let e = half c.before.before.requires in let h = c.loop-test.false in omega arith
+at_end : (c : tie.After-loop-i invariant_loop decreases_loop) → length (pairs c.args.corners.now) ≤ c.loop-i.i
+at_end c = let e = half c.requires in let h = c.loop-i-test.false in omega arith
 
 -- the next corner
-follows : (c : tie.After-next invariant_loop decreases_loop) → c.next.result ≡ next_of c.before.before.loop.i (length (pairs c.before.before.before.args.corners.now))
-follows c = c.next.ensures ∙ ap (next_of c.before.before.loop.i) (half c.before.before.before.requires)
+follows : (c : tie.After-next invariant_loop decreases_loop) → c.next.result ≡ next_of c.loop-i.i (length (pairs c.args.corners.now))
+follows c = c.next.ensures ∙ ap (next_of c.loop-i.i) (half c.requires)
 
 at_point : (st : tie.Start invariant_loop decreases_loop) → nozzle (pairs st.args.corners.now) (raw st.args.px st.args.py) ≡ nozzle (pairs st.args.corners.now) (corner st.args.px st.args.py)
 at_point st = ap (nozzle (pairs st.args.corners.now)) (raw_is st.ranges.px st.ranges.py)
 
 -- what the edge told
-touched : (c : tie.After-touch-at invariant_loop decreases_loop) → c.touch-at.result
-    ≡ touch_of (raw c.before.before.before.before.args.px c.before.before.before.before.args.py) (run (pairs c.before.before.before.before.args.corners.now) c.before.before.before.loop.i)
-touched c = c.touch-at.ensures ∙ ap (λ (k : ℕ). touch_of (raw st.args.px st.args.py) (get_or (pairs st.args.corners.now) c.before.before.before.loop.i origin to get_or (pairs st.args.corners.now) k origin)) (follows c.before)
+touched : (c : tie.After-touch_at invariant_loop decreases_loop) → c.touch_at.result
+    ≡ touch_of (raw c.args.px c.args.py) (run (pairs c.args.corners.now) c.loop-i.i)
+touched c = c.touch_at.ensures ∙ ap (λ (k : ℕ). touch_of (raw st.args.px st.args.py) (get_or (pairs st.args.corners.now) c.loop-i.i origin to get_or (pairs st.args.corners.now) k origin)) (follows c.before)
   where
     st : tie.Start invariant_loop decreases_loop
     st = c.before.before.before.before
 
 -- an edge that adds to the turning number
-module _ (c : tie.After-known-told invariant_loop decreases_loop) where
-  abbrev at_loop : tie.At-loop invariant_loop decreases_loop
-  at_loop = c.before.before.before.before.before.before
+module _ (c : tie.In-Adds invariant_loop decreases_loop) where
+  abbrev at_loop : tie.At-loop-i invariant_loop decreases_loop
+  at_loop = c.before.before.before.before
 
   abbrev st : tie.Start invariant_loop decreases_loop
-  st = c.before.before.before.before.before.before.before
+  st = c.before.before.before.before.before
 
   abbrev turned : ℤ
-  turned = c.before.turn.given.0.0
+  turned = c.in-Adds.turn
 
   turn_fits : SFits w64 turned
-  turn_fits = record { sfits = c.known-told.given.0.1 }
+  turn_fits = record { sfits = c.in-Adds.known_told-1-own.given.0.1 }
 
-  told : touch_of (raw st.args.px st.args.py) (run (pairs st.args.corners.now) at_loop.loop.i) ≡ Adds turned
-  told = sym (touched c.before.before.before) ∙ c.before.turn.given.1
+  told : touch_of (raw st.args.px st.args.py) (run (pairs st.args.corners.now) at_loop.loop-i.i) ≡ Adds turned
+  told = sym (touched c.before) ∙ c.in-Adds.is
 
-  fits : SFits w64 (to_z w64 at_loop.loop.sum +ℤ to_z w64 (of_z w64 turned))
-  fits = rw (to_z-of_z turn_fits) (passing_fits at_loop.loop.inv st.pre.at_most _ turned told)
+  fits : SFits w64 (to_z w64 at_loop.loop-i.sum-bits +ℤ to_z w64 (of_z w64 turned))
+  fits = rw (to_z-of_z turn_fits) (passing_fits at_loop.loop-i.invariant st.requires.at_most _ turned told)
 
-loop_holds : tie.Need-loop-init invariant_loop decreases_loop
+loop_holds : tie.Need-loop-i-init invariant_loop decreases_loop
 loop_holds c = passing_start (pairs c.args.corners.now) _
 
 next_requires : tie.Need-next-requires invariant_loop decreases_loop
-next_requires c κs = c.loop-test.true
+next_requires c κs = c.loop-i-test.true
 
-touch_at_requires : tie.Need-touch-at-requires invariant_loop decreases_loop
-touch_at_requires c κs = let i = inside c.before in (c.before.before.before.requires, i, rw (follows c) (next_inside _ _ i))
+touch_at_requires : tie.Need-touch_at-requires invariant_loop decreases_loop
+touch_at_requires c κs = let i = inside c.before in (c.requires, i, rw (follows c) (next_inside _ _ i))
 
-enum_told : tie.Need-enum-told invariant_loop decreases_loop
+enum_told : tie.Need-enum_told-1 invariant_loop decreases_loop
 enum_told c = search rules
 
-returns : tie.Need-returns invariant_loop decreases_loop
+returns : tie.Need-returns-in-OnEdge invariant_loop decreases_loop
 returns c =
-    let t = c.before.before in
-    ap answered (hit t.before.before.before.loop.invariant (inside t.before.before) (sym (touched t) ∙ c.enum_told.given.1) ∙ at_point t.before.before.before.before)
+    let t = c.before in
+    ap answered (hit t.loop-i.invariant (inside t.before.before) (sym (touched t) ∙ c.in-OnEdge.is) ∙ at_point t.before.before.before.before)
 
-enum_known_turn : tie.Need-enum-known-turn invariant_loop decreases_loop
+enum_known_turn : tie.Need-enum_known-turn invariant_loop decreases_loop
 enum_known_turn c = search rules
 
-add_sum : tie.Need-overflow-add-sum invariant_loop decreases_loop
+add_sum : tie.Need-overflow_add-sum invariant_loop decreases_loop
 add_sum c = fits c
 
-add_i : tie.Need-overflow-add-i invariant_loop decreases_loop
-add_i c = let i = inside c.before.before.before.before.before in let m = (st c).requires.at_most in omega arith
+add_i : tie.Need-overflow_add-i invariant_loop decreases_loop
+add_i c = let i = inside c.before.before.before in let m = (st c).requires.at_most in omega arith
 
-loop_less : tie.Need-loop-smaller invariant_loop decreases_loop
-loop_less c = let h = c.before.before.before.before.before.loop-test.true in omega arith
+loop_less : tie.Need-loop-i-smaller invariant_loop decreases_loop
+loop_less c = let h = c.loop-i-test.true in omega arith
 
-loop_again : tie.Need-loop-preserved invariant_loop decreases_loop
+loop_again : tie.Need-loop-i-preserved invariant_loop decreases_loop
 loop_again c =
-    rw (to_z-of_z (fits c) ∙ ap (λ (z : ℤ). to_z w64 (at_loop c).loop.sum +ℤ z) (to_z-of_z (turn_fits c)))
-    (passing_step (at_loop c).loop.invariant (inside c.before.before.before.before.before) (turned c) (told c))
+    rw (to_z-of_z (fits c) ∙ ap (λ (z : ℤ). to_z w64 (at_loop c).loop-i.sum-bits +ℤ z) (to_z-of_z (turn_fits c)))
+    (passing_step (at_loop c).loop-i.invariant (inside c.before.before.before) (turned c) (told c))
 
 settled_requires : tie.Need-settled-requires invariant_loop decreases_loop
 settled_requires c κs = search rules
 
-returns_2 : tie.Need-returns-2 invariant_loop decreases_loop
+returns_2 : tie.Need-returns invariant_loop decreases_loop
 returns_2 c =
     c.settled.ensures
-    ∙ ap answered (passing_end c.before.before.loop.invariant (at_end c.before) ∙ at_point c.before.before.before)
+    ∙ ap answered (passing_end c.loop-i.invariant (at_end c.before) ∙ at_point c.before.before.before)
 
 pub standing_spec : {M : Type 1} → statement M
 standing_spec =
