@@ -1,4 +1,6 @@
 // Plane to plane between two systems of one ellipsoid, and the conversion of a whole ring.
+#![tactic(auto)]
+
 ghost use Rattle.std.specs.Prelude.{◌≡◌, ◌≤◌, ◌<◌, length, take, drop, get_or, ◌++◌};
 ghost use Rattle.rules.specs.Refusals.{answered, passed};
 ghost use Rattle.rules.specs.Points.{RightPlane, ShowsBoth};

@@ -1,6 +1,8 @@
 // The field calls: whether a field of an outer ring and up to sixteen inner ones is accepted, and where a point stands to it. A field is lent as two slices: the corner count of each ring, the outer one
 // first, and the numbers of all rings one after the other, X and Y of each corner in turn. Each call answers as the rules do, refusals included, for every input; none
 // copies the rings.
+#![tactic(auto)]
+
 ghost use Rattle.std.specs.Prelude.{◌≡◌};
 ghost use Rattle.rules.specs.FieldAnswers.{field_read, accept_answer, join_answer, field_nozzle_answer, field_position_answer};
 ghost use Rattle.ring_checks.specs.Refusal.{refusal_of};

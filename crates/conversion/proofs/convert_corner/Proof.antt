@@ -8,25 +8,25 @@ use Rattle.conversion.proofs.convert_corner.Reads as reads
 use Rattle.conversion.proofs.convert_corner.Lts as lts
 use Rattle.conversion.proofs.convert.Reads as convert_reads
 
-mul_convert : tie.Need-overflow-mul-convert
+mul_convert : tie.Need-overflow_mul-i
 mul_convert c = search rules
 
-mul_convert_2 : tie.Need-overflow-mul-convert-2
+mul_convert_2 : tie.Need-offset_bounds-corners-i
 mul_convert_2 c = search rules
 
-shared_slice_copy_out_convert : tie.Need-shared-slice-copy-out-convert
+shared_slice_copy_out_convert : tie.Need-bounds-corners-i
 shared_slice_copy_out_convert c = search rules
 
-mul_convert_3 : tie.Need-overflow-mul-convert-3
+mul_convert_3 : tie.Need-overflow_mul-i-2
 mul_convert_3 c = search rules
 
-add_convert : tie.Need-overflow-add-convert
+add_convert : tie.Need-overflow_add-i
 add_convert c = search rules
 
-mul_convert_4 : tie.Need-overflow-mul-convert-4
+mul_convert_4 : tie.Need-offset_bounds-corners-i-2
 mul_convert_4 c = search rules
 
-shared_slice_copy_out_convert_2 : tie.Need-shared-slice-copy-out-convert-2
+shared_slice_copy_out_convert_2 : tie.Need-bounds-corners-i-2
 shared_slice_copy_out_convert_2 c = search rules
 
 convert_requires : tie.Need-convert-requires
@@ -34,7 +34,7 @@ convert_requires c κs = search rules
 
 returns : tie.Need-returns
 returns c =
-    let b = c.before.before.before in
+    let b = c in
     let l = b.args.corners.now in
     let i = b.args.i in
     c.convert.ensures

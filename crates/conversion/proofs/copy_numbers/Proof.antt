@@ -14,48 +14,48 @@ use Rattle.conversion.proofs.copy_numbers.Tie as tie
 use Rattle.conversion.proofs.copy_numbers.Reads as reads
 use Rattle.conversion.proofs.copy_numbers.Lts as lts
 
-abbrev invariant_loop : tie.invariant_loop
+abbrev invariant_loop : tie.invariant-loop-i
 invariant_loop numbers output₀ count i₀ output i = Copying numbers output₀ output count i
 
-abbrev decreases_loop : tie.decreases_loop
+abbrev decreases_loop : tie.decreases-loop-i
 decreases_loop numbers output₀ count i₀ output i = count - i
 
-loop_holds : tie.Need-loop-init invariant_loop decreases_loop
+loop_holds : tie.Need-loop-i-init invariant_loop decreases_loop
 loop_holds c = start_copying _ _ _
 
-mul_output : tie.Need-overflow-mul-output invariant_loop decreases_loop
+mul_output : tie.Need-offset_bounds-numbers-i invariant_loop decreases_loop
 mul_output c = search rules
 
-shared_slice_copy_out_output : tie.Need-shared-slice-copy-out-output invariant_loop decreases_loop
-shared_slice_copy_out_output c = let h = c.loop-test.true in let p = c.before.before.requires.0 in omega arith
+shared_slice_copy_out_output : tie.Need-bounds-numbers-i invariant_loop decreases_loop
+shared_slice_copy_out_output c = let h = c.loop-i-test.true in let p = c.requires.0 in omega arith
 
-mul_t9 : tie.Need-overflow-mul-t9 invariant_loop decreases_loop
+mul_t9 : tie.Need-offset_bounds-output-i invariant_loop decreases_loop
 mul_t9 c = search rules
 
-slice_set_from_output : tie.Need-slice-set-from-output invariant_loop decreases_loop
+slice_set_from_output : tie.Need-bounds-output-i invariant_loop decreases_loop
 slice_set_from_output c =
-    let h = c.before.loop-test.true in
-    let p = c.before.before.before.requires.1 in
-    let s = c.before.before.loop.invariant.size in
+    let h = c.loop-i-test.true in
+    let p = c.requires.1 in
+    let s = c.loop-i.invariant.size in
     omega arith
 
-add_i : tie.Need-overflow-add-i invariant_loop decreases_loop
+add_i : tie.Need-overflow_add-i invariant_loop decreases_loop
 add_i c = search rules
 
-loop_less : tie.Need-loop-smaller invariant_loop decreases_loop
+loop_less : tie.Need-loop-i-smaller invariant_loop decreases_loop
 loop_less c = search rules
 
-loop_again : tie.Need-loop-preserved invariant_loop decreases_loop
+loop_again : tie.Need-loop-i-preserved invariant_loop decreases_loop
 loop_again c =
-    let f : SFits w64 (get_or c.before.before.before.args.numbers.now c.before.before.loop.i (pos 0)) = record { sfits = search rules } in
+    let f : SFits w64 (get_or c.args.numbers.now c.loop-i.i (pos 0)) = record { sfits = search rules } in
     rw (to_z-of_z f)
-    (copy_more _ _ _ _ _ c.before.before.loop.invariant c.before.loop-test.true c.before.before.before.requires.0 c.before.before.before.requires.1)
+    (copy_more _ _ _ _ _ c.loop-i.invariant c.loop-i-test.true c.requires.0 c.requires.1)
 
-same_length : tie.Need-same-length invariant_loop decreases_loop
-same_length c = c.before.loop.invariant.size
+same_length : tie.Need-shape_of-output invariant_loop decreases_loop
+same_length c = c.loop-i.invariant.size
 
 returns : tie.Need-returns invariant_loop decreases_loop
-returns c = copy_end _ _ _ _ _ c.before.loop.invariant c.loop-test.false
+returns c = copy_end _ _ _ _ _ c.loop-i.invariant c.loop-i-test.false
 
 pub copy_numbers_spec : {M : Type 1} → statement M
 copy_numbers_spec =

@@ -15,31 +15,31 @@ use Rattle.conversion.proofs.plane_to_plane.Lts as lts
 use Rattle.conversion.proofs.check_codes.Reads as check_codes_reads
 use Rattle.conversion.proofs.convert.Reads as convert_reads
 
-check_codes_requires : tie.Need-check-codes-requires
+check_codes_requires : tie.Need-check_codes-requires
 check_codes_requires c κs = search rules
 
-enum_known_n : tie.Need-enum-known-n
+enum_known_n : tie.Need-enum_known-n
 enum_known_n c = search rules
 
-enum_told : tie.Need-enum-told
+enum_told : tie.Need-enum_told-1
 enum_told c = search rules
 
 convert_requires : tie.Need-convert-requires
 convert_requires c κs = search rules
 
-returns : tie.Need-returns
+returns : tie.Need-returns-in-Refused
 returns c =
-    let b = c.before.before.before.before in
+    let b = c in
     banded (RightPlane _ _ _ _) (plane_right right b.args.source b.args.target b.args.x b.args.y)
-    (sym (codes_refused b.args.source b.args.target _ b.args.x b.args.y (sym c.before.before.before.check-codes.ensures ∙ ap verdict_paper c.before.n.given.1)))
+    (sym (codes_refused b.args.source b.args.target _ b.args.x b.args.y (sym c.check_codes.ensures ∙ ap verdict_paper c.in-Refused.is)))
 
-returns_2 : tie.Need-returns-2
+returns_2 : tie.Need-returns-in-Passed
 returns_2 c =
-    let b = c.before.before.before.before in
+    let b = c in
     banded (RightPlane _ _ _ _) (plane_right right b.args.source b.args.target b.args.x b.args.y)
     (c.convert.ensures
     ∙ ap₂ (carried b.args.source b.args.target) (to_z-of_z b.ranges.x) (to_z-of_z b.ranges.y)
-    ∙ sym (codes_passed b.args.source b.args.target b.args.x b.args.y (sym c.before.before.before.check-codes.ensures ∙ ap verdict_paper c.before.enum_told.given.1)))
+    ∙ sym (codes_passed b.args.source b.args.target b.args.x b.args.y (sym c.check_codes.ensures ∙ ap verdict_paper c.in-Passed.is)))
 
 pub plane_to_plane_spec : {M : Type 1} → statement M
 plane_to_plane_spec =

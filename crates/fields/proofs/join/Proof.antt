@@ -9,20 +9,20 @@ use Rattle.fields.proofs.join.Statement.{statement}
 use Rattle.fields.proofs.join.Tie as tie
 
 -- the field is read
-read : (c : tie.Else1) → refusal_of (field_read c.before.before.before.args.counts.now c.before.before.before.args.corners.now) ≡ 0
-read c = let e = c.before.refusal.ensures in let h = c.if1.false in omega arith
+read : (c : tie.Else-number-gt0) → refusal_of (field_read c.args.counts.now c.args.corners.now) ≡ 0
+read c = let e = c.refusal-number.ensures in let h = c.if-number-gt0.false in omega arith
 
-refusal_requires : tie.Need-refusal-requires
+refusal_requires : tie.Need-refusal-number-requires
 refusal_requires c κs = search rules
 
-returns : tie.Need-returns
-returns c = join_unread _ _ _ _ c.before.refusal.ensures c.if1.true
+returns : tie.Need-returns-then-number-gt0
+returns c = join_unread _ _ _ _ c.refusal-number.ensures c.if-number-gt0.true
 
-join_checked_requires : tie.Need-join-checked-requires
+join_checked_requires : tie.Need-join_checked-requires
 join_checked_requires c κs = (read_checked _ _ (read c)).0
 
-returns_2 : tie.Need-returns-2
-returns_2 c = c.join-checked.ensures ∙ join_read _ _ _ (read c.before)
+returns_2 : tie.Need-returns
+returns_2 c = c.join_checked.ensures ∙ join_read _ _ _ (read c.before)
 
 pub join_spec : {M : Type 1} → statement M
 join_spec = tie.close (tie.spec refusal_requires returns join_checked_requires returns_2)

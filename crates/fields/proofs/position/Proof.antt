@@ -12,33 +12,33 @@ use Rattle.fields.proofs.position.Statement.{statement}
 use Rattle.fields.proofs.position.Tie as tie
 
 -- the counts fit the numbers
-passed : (c : tie.Else1) → uneven c.before.before.before.args.counts.now c.before.before.before.args.corners.now ≡ false
-passed c = sym c.before.uneven.ensures ∙ c.if1.false
+passed : (c : tie.Else-uneven) → uneven c.args.counts.now c.args.corners.now ≡ false
+passed c = sym c.uneven.ensures ∙ c.if-uneven.false
 
 uneven_requires : tie.Need-uneven-requires
 uneven_requires c κs = search rules
 
-returns : tie.Need-returns
-returns c = sym (position_uneven _ _ _ (sym c.before.uneven.ensures ∙ c.if1.true))
+returns : tie.Need-returns-then-uneven
+returns c = sym (position_uneven _ _ _ (sym c.uneven.ensures ∙ c.if-uneven.true))
 
-returns_2 : tie.Need-returns-2
+returns_2 : tie.Need-returns-then-counts-eq0
 returns_2 c =
     let st = c.before.before.before.before in
-    sym (position_even _ _ _ (passed c.before) ∙ position_none st.args.counts.now st.args.corners.now _ c.if2.true)
+    sym (position_even _ _ _ (passed c.before) ∙ position_none st.args.counts.now st.args.corners.now _ c.if-counts-eq0.true)
 
-over_rings_requires : tie.Need-over-rings-requires
+over_rings_requires : tie.Need-over_rings-requires
 over_rings_requires c κs =
     let st = c.before.before.before.before in
-    let h = c.if2.false in
+    let h = c.if-counts-eq0.false in
     (omega arith, even st.args.counts.now st.args.corners.now (passed c.before))
 
 told_requires : tie.Need-told-requires
 told_requires c κs = search rules
 
-returns_3 : tie.Need-returns-3
+returns_3 : tie.Need-returns
 returns_3 c =
     let st = c.before.before.before.before.before.before in
-    c.told.ensures ∙ c.before.over-rings.ensures
+    c.told.ensures ∙ c.over_rings.ensures
     ∙ ap (λ (p : Corner). rings_position (cut st.args.counts.now st.args.corners.now) p) (raw_is st.ranges.px st.ranges.py)
     ∙ sym (position_even _ _ _ (passed c.before.before.before))
 

@@ -25,33 +25,33 @@ module _ (st : tie.Start) where
   part = ap (λ (m : ℕ). take m corners) (less_none (2 * get_or counts 0 0))
 
   good : Accepted (take (2 * get_or counts 0 0) corners)
-  good = subst Accepted (first_ring counts corners st.pre.some) (st.pre.good 0 st.pre.some)
+  good = subst Accepted (first_ring counts corners st.requires.some) (st.requires.good 0 st.requires.some)
 
   inside : 2 * get_or counts 0 0 ≤ length corners
-  inside = first_inside counts corners st.pre.some st.pre.even
+  inside = first_inside counts corners st.requires.some st.requires.even
 
   many : length (pairs (take (2 * get_or counts 0 0) corners)) ≡ get_or counts 0 0
   many = first_many counts corners inside good
 
-shared_slice_read_end : tie.Need-shared-slice-read-end
+shared_slice_read_end : tie.Need-bounds-counts-0
 shared_slice_read_end c = search rules
 
-cast_end : tie.Need-overflow-cast-end
-cast_end c = omega (arith, c.shared-slice-known2.given 0)
+cast_end : tie.Need-overflow_cast-end
+cast_end c = omega (arith, c.shared_slice_known-2-1.given 0)
 
-mul_end : tie.Need-overflow-mul-end
-mul_end c = omega (arith, c.shared-slice-known2.given 0)
+mul_end : tie.Need-overflow_mul-end
+mul_end c = omega (arith, c.shared_slice_known-2-1.given 0)
 
-sub_fill : tie.Need-overflow-sub-fill
+sub_fill : tie.Need-slice_bounds-fill-count
 sub_fill c = search rules
 
-part_fill_start : tie.Need-slice-bounds-fill-start
+part_fill_start : tie.Need-slice_bounds-fill-start
 part_fill_start c = search rules
 
-part_fill_end : tie.Need-slice-bounds-fill-end
+part_fill_end : tie.Need-slice_bounds-fill-end
 part_fill_end c = inside c.before.before
 
-sub_fill_2 : tie.Need-overflow-sub-fill-2
+sub_fill_2 : tie.Need-overflow_sub-end
 sub_fill_2 c = let t = c.before.before.before in let n = many t in let h = (good t).at_least in omega arith
 
 fill_requires : tie.Need-fill-requires
@@ -61,17 +61,17 @@ fill_requires c κs =
     let h = (good t).at_least in
     (subst Accepted (sym (part t)) (good t), subst (λ (l : List ℤ). (2 * get_or (counts t) 0 0 / 2 - 1) + 1 ≡ length (pairs l)) (sym (part t)) (omega arith), omega arith, omega arith)
 
-slice_aggregate_one_more : tie.Need-slice-aggregate-one-more
+slice_aggregate_one_more : tie.Need-slice_bounds-one_more-end
 slice_aggregate_one_more c = search rules
 
-slice_aggregate_one_more_2 : tie.Need-slice-aggregate-one-more-2
+slice_aggregate_one_more_2 : tie.Need-slice_bounds-one_more-end-2
 slice_aggregate_one_more_2 c = search rules
 
-one_more_requires : tie.Need-one-more-requires
+one_more_requires : tie.Need-one_more-requires
 one_more_requires c κs =
     let t = c.before.before.before.before.before.before.before.before in (
       t.requires,
-      subst (λ (l : List ℤ). Boxed (pairs l) (pairs c.before.before.fill.new.1.1.0) (pairs c.before.before.fill.new.1.1.1.0)) (part t ∙ sym (first_ring (counts t) (corners t) t.requires.some)) c.before.before.fill.ensures.0,
+      subst (λ (l : List ℤ). Boxed (pairs l) (pairs c.fill.new.lows) (pairs c.fill.new.highs)) (part t ∙ sym (first_ring (counts t) (corners t) t.requires.some)) c.fill.ensures.0,
     )
 
 returns : tie.Need-returns

@@ -26,25 +26,25 @@ module _ (st : tie.Start) where
   part : take (2 * get_or counts 0 0 - 0) corners ≡ take (2 * get_or counts 0 0) corners
   part = ap (λ (m : ℕ). take m corners) (less_none (2 * get_or counts 0 0))
 
-shared_slice_read_end : tie.Need-shared-slice-read-end
+shared_slice_read_end : tie.Need-bounds-counts-0
 shared_slice_read_end c = search rules
 
-cast_end : tie.Need-overflow-cast-end
-cast_end c = omega (arith, c.shared-slice-known2.given 0)
+cast_end : tie.Need-overflow_cast-end
+cast_end c = omega (arith, c.shared_slice_known-2-1.given 0)
 
-mul_end : tie.Need-overflow-mul-end
-mul_end c = omega (arith, c.shared-slice-known2.given 0)
+mul_end : tie.Need-overflow_mul-end
+mul_end c = omega (arith, c.shared_slice_known-2-1.given 0)
 
-sub_not_inside : tie.Need-overflow-sub-not-inside
+sub_not_inside : tie.Need-slice_bounds-not_inside-count
 sub_not_inside c = search rules
 
-part_not_inside_start : tie.Need-slice-bounds-not-inside-start
+part_not_inside_start : tie.Need-slice_bounds-not_inside-start
 part_not_inside_start c = search rules
 
-part_not_inside_end : tie.Need-slice-bounds-not-inside-end
+part_not_inside_end : tie.Need-slice_bounds-not_inside-end
 part_not_inside_end c = let t = c.before.before in first_inside (counts t) (corners t) t.requires.0.some t.requires.0.even
 
-not_inside_requires : tie.Need-not-inside-requires
+not_inside_requires : tie.Need-not_inside-requires
 not_inside_requires c κs =
     let t = c.before.before.before in
     let e = first_ring (counts t) (corners t) t.requires.0.some ∙ sym (part t) in (
@@ -55,23 +55,23 @@ not_inside_requires c κs =
       t.requires.4,
     )
 
-returns : tie.Need-returns
+returns : tie.Need-returns-then-not_inside
 returns c =
     let t = c.before.before.before.before.before in
     let s = pairs t.args.ring.now in
     misplaced_outer (counts t) (corners t) s t.requires.0.some
-    (sym c.if1.true ∙ c.before.not_inside.ensures ∙ ap (λ (l : List ℤ). rings_meet (pairs l) s || first_outside (pairs l) s) (part t))
+    (sym c.if-not_inside.true ∙ c.not_inside.ensures ∙ ap (λ (l : List ℤ). rings_meet (pairs l) s || first_outside (pairs l) s) (part t))
 
-entangled_any_requires : tie.Need-entangled-any-requires
+entangled_any_requires : tie.Need-entangled_any-requires
 entangled_any_requires c κs = search rules
 
-returns_2 : tie.Need-returns-2
+returns_2 : tie.Need-returns
 returns_2 c =
     let t = c.before.before.before.before.before.before in
     let s = pairs t.args.ring.now in
     c.entangled_any.ensures
     ∙ misplaced_inner (counts t) (corners t) s t.requires.0.some
-    (sym c.before.if1.false ∙ c.before.before.not_inside.ensures ∙ ap (λ (l : List ℤ). rings_meet (pairs l) s || first_outside (pairs l) s) (part t))
+    (sym c.if-not_inside.false ∙ c.not_inside.ensures ∙ ap (λ (l : List ℤ). rings_meet (pairs l) s || first_outside (pairs l) s) (part t))
 
 pub misplaced_by_boxes_spec : {M : Type 1} → statement M
 misplaced_by_boxes_spec =

@@ -29,63 +29,63 @@ module _ (t : tie.After-crossing) where
   at = t.before.before.before.before
 
   few : length (rings at) - 1 < 16
-  few = let n = as_many at in let h = t.before.before.if1.left in omega arith
+  few = let n = as_many at in let h = t.if-counts-gt16.false in omega arith
 
   short : length at.args.ring.now ≤ 256
-  short = t.before.if2.left
+  short = t.if-ring-gt256.false
 
   said : (f : CrossingAnswer) → t.crossing.result ≡ f → crossing_paper f ≡ crossing_answer at.args.ring.now
   said f e = sym (ap crossing_paper e) ∙ t.crossing.ensures
 
-returns : tie.Need-returns
-returns c = let st = c.before.before in let n = as_many st in let h = c.if1.true in seventeenth_ring (rings st) st.args.ring.now (omega arith)
+returns : tie.Need-returns-then-counts-gt16
+returns c = let st = c.before.before in let n = as_many st in let h = c.if-counts-gt16.true in seventeenth_ring (rings st) st.args.ring.now (omega arith)
 
-returns_2 : tie.Need-returns-2
+returns_2 : tie.Need-returns-then-ring-gt256
 returns_2 c =
     let st = c.before.before.before in
     let n = as_many st in
-    let h = c.before.if1.false in
-    too_long_ring (rings st) st.args.ring.now (omega arith) c.if2.true
+    let h = c.if-counts-gt16.false in
+    too_long_ring (rings st) st.args.ring.now (omega arith) c.if-ring-gt256.true
 
 crossing_requires : tie.Need-crossing-requires
 crossing_requires c κs = search rules
 
-enum_known_number : tie.Need-enum-known-number
+enum_known_number : tie.Need-enum_known-number
 enum_known_number c = search rules
 
-enum_known_low : tie.Need-enum-known-low
+enum_known_low : tie.Need-enum_known-low
 enum_known_low c = search rules
 
-enum_told : tie.Need-enum-told
+enum_told : tie.Need-enum_told-1
 enum_told c = search rules
 
 misplaced_requires : tie.Need-misplaced-requires
 misplaced_requires c κs =
-    let t = c.before.before in
-    ((at t).requires.0, (at t).requires.1, join_accepted (rings (at t)) (at t).args.ring.now (few t) (short t) _ (said t _ c.enum_told.given.1))
+    let t = c in
+    ((at t.before).requires.0, (at t.before).requires.1, join_accepted (rings (at t.before)) (at t.before).args.ring.now (few t.before) (short t.before) _ (said t.before _ c.in-Clean.is))
 
-returns_3 : tie.Need-returns-3
+returns_3 : tie.Need-returns-then-misplaced
 returns_3 c =
-    let t = c.before.before.before.before in
-    join_misplaced (rings (at t)) (at t).args.ring.now (few t) (short t) _ (said t _ c.before.before.enum_told.given.1) (sym c.if3.true ∙ c.before.misplaced.ensures)
+    let t = c.before.before.before in
+    join_misplaced (rings (at t)) (at t).args.ring.now (few t) (short t) _ (said t _ c.in-Clean.is) (sym c.if-misplaced.true ∙ c.misplaced.ensures)
 
-returns_4 : tie.Need-returns-4
+returns_4 : tie.Need-returns-in-Refused
 returns_4 c =
-    let t = c.before.before.before in
-    join_refused (rings (at t)) (at t).args.ring.now (few t) (short t) _ (said t _ c.before.number.given.1)
+    let t = c.before in
+    join_refused (rings (at t)) (at t).args.ring.now (few t) (short t) _ (said t _ c.in-Refused.is)
 
-returns_5 : tie.Need-returns-5
+returns_5 : tie.Need-returns-in-Crossed
 returns_5 c =
-    let t = c.before.before.before in
+    let t = c.before in
     let n = as_many (at t) in
     let h = (at t).requires.0.some in
-    ap (λ (k : ℕ). crossed_at (record { ring = k; low = c.before.low.given.0.0; high = c.before.low.given.0.1.0; looked_at = c.before.low.given.0.1.1.0 })) (sym n)
-    ∙ join_crossed (rings (at t)) (at t).args.ring.now (few t) (short t) (omega arith) _ (said t _ c.before.low.given.1)
+    ap (λ (k : ℕ). crossed_at (record { ring = k; low = c.in-Crossed.low; high = c.in-Crossed.high; looked_at = c.in-Crossed.looked })) (sym n)
+    ∙ join_crossed (rings (at t)) (at t).args.ring.now (few t) (short t) (omega arith) _ (said t _ c.in-Crossed.is)
 
-returns_6 : tie.Need-returns-6
+returns_6 : tie.Need-returns-else-misplaced
 returns_6 c =
-    let t = c.before.before.before.before in
-    join_placed (rings (at t)) (at t).args.ring.now (few t) (short t) _ (said t _ c.before.before.enum_told.given.1) (sym c.if3.false ∙ c.before.misplaced.ensures)
+    let t = c.before.before.before in
+    join_placed (rings (at t)) (at t).args.ring.now (few t) (short t) _ (said t _ c.in-Clean.is) (sym c.if-misplaced.false ∙ c.misplaced.ensures)
 
 pub one_more_spec : {M : Type 1} → statement M
 one_more_spec =

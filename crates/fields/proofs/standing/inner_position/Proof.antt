@@ -13,28 +13,28 @@ use borrow.Author.Rules.{rules}
 use Rattle.fields.proofs.standing.inner_position.Statement.{statement}
 use Rattle.fields.proofs.standing.inner_position.Tie as tie
 
-returns : tie.Need-returns
+returns : tie.Need-returns-then-before-ge16
 unfolding inner_position
 returns c =
     let st = c.before in
-    sym (ap (λ (a : Answer (List Corner)). a >>= λ r. answered (nozzle r (corner st.args.px st.args.py))) (seventeenth st.args.before st.args.ring.now c.if1.true))
+    sym (ap (λ (a : Answer (List Corner)). a >>= λ r. answered (nozzle r (corner st.args.px st.args.py))) (seventeenth st.args.before st.args.ring.now c.if-before-ge16.true))
 
-returns_2 : tie.Need-returns-2
+returns_2 : tie.Need-returns-then-ring-gt256
 unfolding inner_position
 returns_2 c =
     let st = c.before.before in
-    sym (ap (λ (a : Answer (List Corner)). a >>= λ r. answered (nozzle r (corner st.args.px st.args.py))) (too_long st.args.before st.args.ring.now c.before.if1.false c.if2.true))
+    sym (ap (λ (a : Answer (List Corner)). a >>= λ r. answered (nozzle r (corner st.args.px st.args.py))) (too_long st.args.before st.args.ring.now c.if-before-ge16.false c.if-ring-gt256.true))
 
 position_requires : tie.Need-position-requires
 position_requires c κs = search rules
 
-returns_3 : tie.Need-returns-3
+returns_3 : tie.Need-returns
 unfolding inner_position position_answer
 returns_3 c =
     let st = c.before.before.before in
     c.position.ensures
     ∙ ap (λ (p : Corner). position_answer st.args.ring.now p) (raw_is st.ranges.px st.ranges.py)
-    ∙ sym (ap (λ (a : Answer (List Corner)). a >>= λ r. answered (nozzle r (corner st.args.px st.args.py))) (not_long st.args.before st.args.ring.now c.before.before.if1.false c.before.if2.false))
+    ∙ sym (ap (λ (a : Answer (List Corner)). a >>= λ r. answered (nozzle r (corner st.args.px st.args.py))) (not_long st.args.before st.args.ring.now c.if-before-ge16.false c.if-ring-gt256.false))
 
 pub inner_position_spec : {M : Type 1} → statement M
 inner_position_spec = tie.close (tie.spec returns returns_2 position_requires returns_3)
