@@ -1,5 +1,7 @@
 // The field calls as a terminal has them: a number that is returned, 0 or the refusal, and memory that is lent for the answer and for the place of refusal 9. The C interface
 // hands these on; they stand in a crate of their own so that it stays small.
+#![tactic(auto)]
+
 ghost use Rattle.std.specs.Prelude.{◌≡◌};
 ghost use Rattle.rules.specs.FieldAnswers.{accept_answer, field_nozzle_answer, field_position_answer};
 ghost use Rattle.rings.specs.Answers.{refusal_of};

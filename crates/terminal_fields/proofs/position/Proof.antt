@@ -14,42 +14,42 @@ use Rattle.terminal_fields.proofs.position.Tie as tie
 position_requires : tie.Need-position-requires
 position_requires c κs = search rules
 
-enum_known_number : tie.Need-enum-known-number
+enum_known_number : tie.Need-enum_known-number
 enum_known_number c = search rules
 
-enum_told : tie.Need-enum-told
+enum_told : tie.Need-enum_told-1
 enum_told c = search rules
 
-enum_told_2 : tie.Need-enum-told-2
+enum_told_2 : tie.Need-enum_told-in-Shut
 enum_told_2 c = search rules
 
-enum_told_3 : tie.Need-enum-told-3
+enum_told_3 : tie.Need-enum_told-in-Open
 enum_told_3 c = search rules
 
-enum_told_4 : tie.Need-enum-told-4
+enum_told_4 : tie.Need-enum_told-in-Border
 enum_told_4 c = search rules
 
 -- the answer owed is the answer that the library's call gave
 given : (c : tie.After-position) (f : FieldNozzle) → c.position.result ≡ f
-    → field_position_answer c.before.before.args.counts.now c.before.before.args.corners.now (corner c.before.before.args.px c.before.before.args.py) ≡ field_nozzle_paper f
+    → field_position_answer c.args.counts.now c.args.corners.now (corner c.args.px c.args.py) ≡ field_nozzle_paper f
 given c f e =
     let s = c.before.before in
     sym (c.position.ensures ∙ ap₂ (λ x y. field_position_answer s.args.counts.now s.args.corners.now (corner x y)) (to_z-of_z s.ranges.px) (to_z-of_z s.ranges.py)) ∙ ap field_nozzle_paper e
 
-returns : tie.Need-returns
-returns c = let e = given c.before.before.before _ c.before.number.given.1 in (number_same e, answer_same e nozzle_number _)
+returns : tie.Need-returns-in-Refused
+returns c = let e = given c.before _ c.in-Refused.is in (number_same e, answer_same e nozzle_number _)
 
-returns_2 : tie.Need-returns-2
-returns_2 c = let e = given c.before.before _ c.enum_told.given.1 in (number_same e, answer_same e nozzle_number _)
+returns_2 : tie.Need-returns-in-Crossed
+returns_2 c = let e = given c.before _ c.in-Crossed.is in (number_same e, answer_same e nozzle_number _)
 
-returns_3 : tie.Need-returns-3
-returns_3 c = let e = given c.before.before.before _ c.before.enum-told2.given.1 in (number_same e, answer_same e nozzle_number c.before.before.before.before.before.args.answer.now)
+returns_3 : tie.Need-returns-in-Shut
+returns_3 c = let e = given c.before.before _ c.in-Shut.is in (number_same e, answer_same e nozzle_number c.args.answer.now)
 
-returns_4 : tie.Need-returns-4
-returns_4 c = let e = given c.before.before.before _ c.before.enum-told3.given.1 in (number_same e, answer_same e nozzle_number c.before.before.before.before.before.args.answer.now)
+returns_4 : tie.Need-returns-in-Open
+returns_4 c = let e = given c.before.before _ c.in-Open.is in (number_same e, answer_same e nozzle_number c.args.answer.now)
 
-returns_5 : tie.Need-returns-5
-returns_5 c = let e = given c.before.before.before _ c.before.enum-told4.given.1 in (number_same e, answer_same e nozzle_number c.before.before.before.before.before.args.answer.now)
+returns_5 : tie.Need-returns-in-Border
+returns_5 c = let e = given c.before.before _ c.in-Border.is in (number_same e, answer_same e nozzle_number c.args.answer.now)
 
 pub position_spec : {M : Type 1} → statement M
 position_spec =
