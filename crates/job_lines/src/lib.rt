@@ -1,2 +1,4 @@
 // The lines that a job prints.
+#![tactic(auto)]
+
 pub mod line;

@@ -94,7 +94,7 @@ turned {cs} {numbers} {i} d x y g h e ex ey = record {
 
 -- a callee's signed result, read back from its bits as its argument was
 pub limited_back : {z : ℤ} (y : ℤ) → mag z < 2 ^ 63 → mag y < 2 ^ 63 → z ≡ within (to_z w64 (of_z w64 y)) → to_z w64 (of_z w64 z) ≡ within y
-limited_back y h g e = to_z-of_z (record { sfits = h }) ∙ e ∙ ap within (to_z-of_z (record { sfits = g }))
+limited_back y h g e = to_z-of_z {w = w64} (record { sfits = h }) ∙ e ∙ ap within (to_z-of_z {w = w64} (record { sfits = g }))
 
 -- ---- the rules' checks of the flat list, of a ring whose numbers are within their limits
 pub corners_flat : (r : List Corner) → corners (flat r) ≡ answered r

@@ -1,4 +1,6 @@
 // The job's state by value, and what a record makes of it.
+#![tactic(auto)]
+
 pub mod in_place;
 mod ring;
 pub mod state;

@@ -8,26 +8,17 @@ use Rattle.job_lines.proofs.line.refusal_line.Tie as tie
 empty_requires : tie.Need-empty-requires
 empty_requires c κs = search rules
 
-slice_aggregate_with : tie.Need-slice-aggregate-with
-slice_aggregate_with c = search rules
-
 with_requires : tie.Need-with-requires
 with_requires c κs = search rules
 
-with_number_requires : tie.Need-with-number-requires
+with_number_requires : tie.Need-with_number-requires
 with_number_requires c κs = search rules
-
-slice_aggregate_with_2 : tie.Need-slice-aggregate-with-2
-slice_aggregate_with_2 c = search rules
 
 with_requires_2 : tie.Need-with-requires-2
 with_requires_2 c κs = search rules
 
-with_number_requires_2 : tie.Need-with-number-requires-2
+with_number_requires_2 : tie.Need-with_number-requires-2
 with_number_requires_2 c κs = search rules
-
-slice_aggregate_with_3 : tie.Need-slice-aggregate-with-3
-slice_aggregate_with_3 c = search rules
 
 with_requires_3 : tie.Need-with-requires-3
 with_requires_3 c κs = search rules
@@ -35,20 +26,17 @@ with_requires_3 c κs = search rules
 returns : tie.Need-returns
 returns c =
     spoken (omega arith)
-    (text_after (number_after (text_after (number_after (text_after (none c.before.before.before.before.before.before.before.before.empty.ensures.0 c.before.before.before.before.before.before.before.before.empty.ensures.1)
-    c.before.before.before.before.before.before.with.ensures) c.before.before.before.before.before.with_number.ensures) c.before.before.before.with2.ensures) c.before.before.with-number2.ensures) c.with3.ensures)
+    (text_after (number_after (text_after (number_after (text_after (none c.empty.ensures.0 c.empty.ensures.1)
+    c.with.ensures) c.with_number.ensures) c.with-2.ensures) c.with_number-2.ensures) c.with-3.ensures)
 
 pub refusal_line_spec : {M : Type 1} → statement M
 refusal_line_spec =
     tie.close
     (tie.spec
     empty_requires
-    slice_aggregate_with
     with_requires
     with_number_requires
-    slice_aggregate_with_2
     with_requires_2
     with_number_requires_2
-    slice_aggregate_with_3
     with_requires_3
     returns)

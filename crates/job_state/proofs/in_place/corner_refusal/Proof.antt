@@ -8,41 +8,41 @@ use borrow.Author.Rules.{rules}
 use Rattle.job_state.proofs.in_place.corner_refusal.Statement.{statement}
 use Rattle.job_state.proofs.in_place.corner_refusal.Tie as tie
 
-enum_told : tie.Need-enum-told
+enum_told : tie.Need-enum_told-1
 enum_told c = search rules
 
-enum_told_2 : tie.Need-enum-told-2
+enum_told_2 : tie.Need-enum_told-in-Gathering
 enum_told_2 c = search rules
 
-gathered_refusal_requires : tie.Need-gathered-refusal-requires
+gathered_refusal_requires : tie.Need-gathered_refusal-requires
 gathered_refusal_requires c κs = search rules
 
-enum_told_3 : tie.Need-enum-told-3
+enum_told_3 : tie.Need-enum_told-in-Accepted
 enum_told_3 c = search rules
 
-enum_told_4 : tie.Need-enum-told-4
+enum_told_4 : tie.Need-enum_told-in-Inner
 enum_told_4 c = search rules
 
-gathered_refusal_requires_2 : tie.Need-gathered-refusal-requires-2
+gathered_refusal_requires_2 : tie.Need-gathered_refusal-requires-in-Inner
 gathered_refusal_requires_2 c κs = search rules
 
-returns : tie.Need-returns
-returns c = rw c.enum_told.given.1 (corner_out _ _ _ Idle refl)
+returns : tie.Need-returns-in-Idle
+returns c = rw c.in-Idle.is (corner_out _ _ _ Idle refl)
 
-returns_2 : tie.Need-returns-2
+returns_2 : tie.Need-returns-in-Gathering
 returns_2 c =
-    rw c.before.enum-told2.given.1
-    (corner_by _ _ _ Gathering refl c.gathered-refusal.result
-    (read_back (λ X Y. c.gathered-refusal.result ≡ corner_refused 1024 c.before.before.before.args.count X Y) _ _ c.before.before.before.ranges.x c.before.before.before.ranges.y c.gathered-refusal.ensures))
+    rw c.in-Gathering.is
+    (corner_by _ _ _ Gathering refl c.gathered_refusal.result
+    (read_back (λ X Y. c.gathered_refusal.result ≡ corner_refused 1024 c.args.count X Y) _ _ c.ranges.x c.ranges.y c.gathered_refusal.ensures))
 
-returns_3 : tie.Need-returns-3
-returns_3 c = rw c.enum-told3.given.1 (corner_out _ _ _ Accepted refl)
+returns_3 : tie.Need-returns-in-Accepted
+returns_3 c = rw c.in-Accepted.is (corner_out _ _ _ Accepted refl)
 
-returns_4 : tie.Need-returns-4
+returns_4 : tie.Need-returns-in-Inner
 returns_4 c =
-    rw c.before.enum-told4.given.1
-    (corner_by _ _ _ Inner refl c.gathered-refusal2.result
-    (read_back (λ X Y. c.gathered-refusal2.result ≡ corner_refused 128 c.before.before.before.args.count X Y) _ _ c.before.before.before.ranges.x c.before.before.before.ranges.y c.gathered-refusal2.ensures))
+    rw c.in-Inner.is
+    (corner_by _ _ _ Inner refl c.gathered_refusal-in-Inner.result
+    (read_back (λ X Y. c.gathered_refusal-in-Inner.result ≡ corner_refused 128 c.args.count X Y) _ _ c.ranges.x c.ranges.y c.gathered_refusal-in-Inner.ensures))
 
 pub corner_refusal_spec : {M : Type 1} → statement M
 corner_refusal_spec =

@@ -8,33 +8,33 @@ use borrow.Author.Rules.{rules}
 use Rattle.job_state.proofs.in_place.gathered_refusal.Statement.{statement}
 use Rattle.job_state.proofs.in_place.gathered_refusal.Tie as tie
 
-returns : tie.Need-returns
-returns c = rw (le-leb _ _ c.if1.true) refl
+returns : tie.Need-returns-then-most-count
+returns c = rw (le-leb _ _ c.if-most-count.true) refl
 
 outside_requires : tie.Need-outside-requires
 outside_requires c κs = search rules
 
-returns_2 : tie.Need-returns-2
-returns_2 c = rw (lt-leb _ _ c.before.before.if1.false, ap number_bad (sym (to_z-of_z c.before.before.before.ranges.x)) ∙ sym c.before.outside.ensures ∙ c.if2.true) refl
+returns_2 : tie.Need-returns-then-outside
+returns_2 c = rw (lt-leb _ _ c.if-most-count.false, ap number_bad (sym (to_z-of_z c.ranges.x)) ∙ sym c.outside.ensures ∙ c.if-outside.true) refl
 
 outside_requires_2 : tie.Need-outside-requires-2
 outside_requires_2 c κs = search rules
 
-returns_3 : tie.Need-returns-3
+returns_3 : tie.Need-returns-then-outside-2
 returns_3 c =
     rw (
-      lt-leb _ _ c.before.before.before.before.if1.false,
-      ap number_bad (sym (to_z-of_z c.before.before.before.before.before.ranges.x)) ∙ sym c.before.before.before.outside.ensures ∙ c.before.before.if2.false,
-      ap number_bad (sym (to_z-of_z c.before.before.before.before.before.ranges.y)) ∙ sym c.before.outside2.ensures ∙ c.if3.true,
+      lt-leb _ _ c.if-most-count.false,
+      ap number_bad (sym (to_z-of_z c.ranges.x)) ∙ sym c.outside.ensures ∙ c.if-outside.false,
+      ap number_bad (sym (to_z-of_z c.ranges.y)) ∙ sym c.outside-2.ensures ∙ c.if-outside-2.true,
     )
     refl
 
-returns_4 : tie.Need-returns-4
+returns_4 : tie.Need-returns
 returns_4 c =
     rw (
-      lt-leb _ _ c.before.before.before.before.if1.false,
-      ap number_bad (sym (to_z-of_z c.before.before.before.before.before.ranges.x)) ∙ sym c.before.before.before.outside.ensures ∙ c.before.before.if2.false,
-      ap number_bad (sym (to_z-of_z c.before.before.before.before.before.ranges.y)) ∙ sym c.before.outside2.ensures ∙ c.if3.false,
+      lt-leb _ _ c.if-most-count.false,
+      ap number_bad (sym (to_z-of_z c.ranges.x)) ∙ sym c.outside.ensures ∙ c.if-outside.false,
+      ap number_bad (sym (to_z-of_z c.ranges.y)) ∙ sym c.outside-2.ensures ∙ c.if-outside-2.false,
     )
     refl
 

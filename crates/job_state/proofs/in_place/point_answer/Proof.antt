@@ -10,16 +10,16 @@ use Rattle.job_state.proofs.in_place.point_answer.Tie as tie
 gathers_requires : tie.Need-gathers-requires
 gathers_requires c κs = search rules
 
-returns : tie.Need-returns
-returns c = point_out _ _ _ _ (sym c.before.gathers.ensures ∙ c.if1.true)
+returns : tie.Need-returns-then-gathers
+returns c = point_out _ _ _ _ (sym c.gathers.ensures ∙ c.if-gathers.true)
 
-projected_answer_requires : tie.Need-projected-answer-requires
+projected_answer_requires : tie.Need-projected_answer-requires
 projected_answer_requires c κs = search rules
 
-returns_2 : tie.Need-returns-2
+returns_2 : tie.Need-returns
 returns_2 c =
-    point_taken _ _ _ _ (sym c.before.before.gathers.ensures ∙ c.before.if1.false) _
-    (read_back (λ B L. Projecting c.before.before.before.args.code B L c.projected-answer.result) _ _ c.before.before.before.ranges.b c.before.before.before.ranges.l c.projected-answer.ensures)
+    point_taken _ _ _ _ (sym c.gathers.ensures ∙ c.if-gathers.false) _
+    (read_back (λ B L. Projecting c.args.code B L c.projected_answer.result) _ _ c.ranges.b c.ranges.l c.projected_answer.ensures)
 
 pub point_answer_spec : {M : Type 1} → statement M
 point_answer_spec =

@@ -7,61 +7,59 @@ use borrow.Author.Rules.{rules}
 use Rattle.job_state.proofs.in_place.reply_to.Statement.{statement}
 use Rattle.job_state.proofs.in_place.reply_to.Tie as tie
 
-enum_told : tie.Need-enum-told
+enum_told : tie.Need-enum_told-1
 enum_told c = search rules
 
-enum_known_item : tie.Need-enum-known-item
+enum_known_item : tie.Need-enum_known-item
 enum_known_item c = search rules
 
-corner_reply_requires : tie.Need-corner-reply-requires
+corner_reply_requires : tie.Need-corner_reply-requires
 corner_reply_requires c κs = search rules
 
-enum_told_2 : tie.Need-enum-told-2
+enum_told_2 : tie.Need-enum_told-in-Close
 enum_told_2 c = search rules
 
-enum_known_item_2 : tie.Need-enum-known-item-2
+enum_known_item_2 : tie.Need-enum_known-item-in-Query-1
 enum_known_item_2 c = search rules
 
-query_answer_requires : tie.Need-query-answer-requires
+query_answer_requires : tie.Need-query_answer-requires
 query_answer_requires c κs = search rules
 
-returns : tie.Need-returns
+returns : tie.Need-returns-then-laid
 returns c =
-    let item = c.before.before.before.item2 in
-    let st = c.before.before.before.before.before.before in
-    says_query item.given.1 c.before.if1.true
-    (read_back (λ X Y. Answering (Lies st.args.phase st.args.counts.now st.args.numbers.now) (Query X Y) c.query-answer.result) _ _ (record { sfits = c.before.before.known-told2.given.0.1 }) (record { sfits = c.before.before.known-told2.given.1.0.1 }) c.query-answer.ensures)
+    let st = c in
+    says_query c.in-Query.is c.if-laid.true
+    (read_back (λ X Y. Answering (Lies st.args.phase st.args.counts.now st.args.numbers.now) (Query X Y) c.query_answer.result) _ _ (record { sfits = c.in-Query.known_told-in-Query-1-own.given.0.1 }) (record { sfits = c.in-Query.known_told-in-Query-1-own.given.1.0.1 }) c.query_answer.ensures)
 
-enum_known_item_3 : tie.Need-enum-known-item-3
+enum_known_item_3 : tie.Need-enum_known-item-in-Point-1
 enum_known_item_3 c = search rules
 
-point_answer_requires : tie.Need-point-answer-requires
+point_answer_requires : tie.Need-point_answer-requires
 point_answer_requires c κs = search rules
 
-enum_told_3 : tie.Need-enum-told-3
+enum_told_3 : tie.Need-enum_told-in-Inner
 enum_told_3 c = search rules
 
-returns_2 : tie.Need-returns-2
+returns_2 : tie.Need-returns-in-Begin
 returns_2 c = search rules
 
-returns_3 : tie.Need-returns-3
+returns_3 : tie.Need-returns-in-Corner
 returns_3 c =
-    replied_as c.before.before.item.given.1
-    ((read_back (λ X Y. CornerReplied c.before.before.before.before.before.args.phase c.before.before.before.before.before.args.count X Y c.corner-reply.result) _ _ (record { sfits = c.before.known-told.given.0.1 }) (record { sfits = c.before.known-told.given.1.0.1 }) c.corner-reply.ensures).replied _ _ _)
+    replied_as c.in-Corner.is
+    ((read_back (λ X Y. CornerReplied c.args.phase c.args.count X Y c.corner_reply.result) _ _ (record { sfits = c.in-Corner.known_told-1-own.given.0.1 }) (record { sfits = c.in-Corner.known_told-1-own.given.1.0.1 }) c.corner_reply.ensures).replied _ _ _)
 
-returns_4 : tie.Need-returns-4
+returns_4 : tie.Need-returns-in-Close
 returns_4 c = search rules
 
-returns_5 : tie.Need-returns-5
+returns_5 : tie.Need-returns-else-laid
 returns_5 c = search rules
 
-returns_6 : tie.Need-returns-6
+returns_6 : tie.Need-returns-in-Point
 returns_6 c =
-    let item = c.before.before.item3 in
-    says_point item.given.1
-    (read_back (λ B L. Answering (In c.before.before.before.before.before.args.phase) (Point item.given.0.0 B L) c.point-answer.result) item.given.0.1.0 item.given.0.1.1.0 (record { sfits = c.before.known-told3.given.1.0.1 }) (record { sfits = c.before.known-told3.given.1.1.0.1 }) c.point-answer.ensures)
+    says_point c.in-Point.is
+    (read_back (λ B L. Answering (In c.args.phase) (Point c.in-Point.code B L) c.point_answer.result) c.in-Point.b c.in-Point.l (record { sfits = c.in-Point.known_told-in-Point-1-own.given.1.0.1 }) (record { sfits = c.in-Point.known_told-in-Point-1-own.given.1.1.0.1 }) c.point_answer.ensures)
 
-returns_7 : tie.Need-returns-7
+returns_7 : tie.Need-returns-in-Inner
 returns_7 c = search rules
 
 pub reply_to_spec : {M : Type 1} → statement M

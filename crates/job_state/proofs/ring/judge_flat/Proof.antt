@@ -4,29 +4,29 @@ use borrow.Author.Rules.{rules}
 use Rattle.job_state.proofs.ring.judge_flat.Statement.{statement}
 use Rattle.job_state.proofs.ring.judge_flat.Tie as tie
 
-crossing_requires : tie.Need-crossing-requires
+crossing_requires : tie.Need-crossing-crossing-requires
 crossing_requires c κs = search rules
 
-enum_told : tie.Need-enum-told
+enum_told : tie.Need-enum_told-1
 enum_told c = search rules
 
-judge_area_requires : tie.Need-judge-area-requires
+judge_area_requires : tie.Need-judge_area-requires
 judge_area_requires c κs = search rules
 
-enum_known_crossing : tie.Need-enum-known-crossing
+enum_known_crossing : tie.Need-enum_known-crossing
 enum_known_crossing c = search rules
 
-enum_known_crossing_2 : tie.Need-enum-known-crossing-2
+enum_known_crossing_2 : tie.Need-enum_known-crossing-in-Refused-1
 enum_known_crossing_2 c = search rules
 
-returns : tie.Need-returns
-returns c = clean_judged _ c.before.before.before.crossing.ensures c.judge-area.result c.before.enum_told.given.1 c.judge-area.ensures
+returns : tie.Need-returns-in-Clean
+returns c = clean_judged _ c.crossing-crossing.ensures c.judge_area.result c.in-Clean.is c.judge_area.ensures
 
-returns_2 : tie.Need-returns-2
-returns_2 c = crossed_judged _ c.before.before.before.crossing.ensures c.before.crossing2.given.1
+returns_2 : tie.Need-returns-in-Crossed
+returns_2 c = crossed_judged _ c.crossing-crossing.ensures c.in-Crossed.is
 
-returns_3 : tie.Need-returns-3
-returns_3 c = refused_judged _ c.before.before.before.crossing.ensures c.before.crossing3.given.1
+returns_3 : tie.Need-returns-in-Refused
+returns_3 c = refused_judged _ c.crossing-crossing.ensures c.in-Refused.is
 
 pub judge_flat_spec : {M : Type 1} → statement M
 judge_flat_spec =

@@ -16,20 +16,20 @@ gathers_requires c κs = search rules
 refused_requires : tie.Need-refused-requires
 refused_requires c κs = search rules
 
-returns : tie.Need-returns
+returns : tie.Need-returns-then-gathers
 returns c =
-    let st = c.before.before.before in
-    stepping_at (begins worked_forward st.args.self st.args.code ∙ ap (λ (b : Bool). chosen b (refused out_of_place) (begun st.args.code)) (sym c.before.before.gathers.ensures ∙ c.before.if1.true))
+    let st = c in
+    stepping_at (begins worked_forward st.args.self st.args.code ∙ ap (λ (b : Bool). chosen b (refused out_of_place) (begun st.args.code)) (sym c.gathers.ensures ∙ c.if-gathers.true))
     (refusing 13 _ c.refused.ensures.0 c.refused.ensures.1)
 
-begin_field_requires : tie.Need-begin-field-requires
+begin_field_requires : tie.Need-begin_field-requires
 begin_field_requires c κs = search rules
 
-returns_2 : tie.Need-returns-2
+returns_2 : tie.Need-returns
 returns_2 c =
-    let st = c.before.before.before in
-    stepping_at (begins worked_forward st.args.self st.args.code ∙ ap (λ (b : Bool). chosen b (refused out_of_place) (begun st.args.code)) (sym c.before.before.gathers.ensures ∙ c.before.if1.false))
-    c.begin-field.ensures
+    let st = c in
+    stepping_at (begins worked_forward st.args.self st.args.code ∙ ap (λ (b : Bool). chosen b (refused out_of_place) (begun st.args.code)) (sym c.gathers.ensures ∙ c.if-gathers.false))
+    c.begin_field.ensures
 
 pub begin_spec : {M : Type 1} → statement M
 begin_spec =

@@ -12,67 +12,67 @@ use borrow.Author.Rules.{rules}
 use Rattle.job_state.proofs.state.Job.begin_inner.Statement.{statement}
 use Rattle.job_state.proofs.state.Job.begin_inner.Tie as tie
 
-counts_held_requires : tie.Need-counts-held-requires
+counts_held_requires : tie.Need-counts_held-rings-requires
 counts_held_requires c κs = search rules
 
-numbers_held_requires : tie.Need-numbers-held-requires
+numbers_held_requires : tie.Need-numbers_held-end-requires
 numbers_held_requires c κs = search rules
 
-lay_out_requires : tie.Need-lay-out-requires
+lay_out_requires : tie.Need-lay_out-numbers-requires
 lay_out_requires c κs = search rules
 
-sub_refusal : tie.Need-overflow-sub-refusal
+sub_refusal : tie.Need-slice_bounds-refusal-count
 sub_refusal c = search rules
 
-part_refusal_start : tie.Need-slice-bounds-refusal-start
+part_refusal_start : tie.Need-slice_bounds-refusal-start
 part_refusal_start c = search rules
 
-part_refusal_end : tie.Need-slice-bounds-refusal-end
-part_refusal_end c = let f = few 17 c.before.before.before.before.before.before.args.self.rings in let e = c.before.before.before.counts-held.ensures in let l : length c.before.before.before.before.before.before.args.self.counts ≡ 17 = search rules in omega arith
+part_refusal_end : tie.Need-slice_bounds-refusal-end
+part_refusal_end c = let f = few 17 c.args.self.rings in let e = c.counts_held-rings.ensures in let l : length c.args.self.counts ≡ 17 = search rules in omega arith
 
-sub_refusal_2 : tie.Need-overflow-sub-refusal-2
+sub_refusal_2 : tie.Need-slice_bounds-refusal-count-2
 sub_refusal_2 c = search rules
 
-part_refusal_start_2 : tie.Need-slice-bounds-refusal-start-2
+part_refusal_start_2 : tie.Need-slice_bounds-refusal-start-2
 part_refusal_start_2 c = search rules
 
-part_refusal_end_2 : tie.Need-slice-bounds-refusal-end-2
-part_refusal_end_2 c = let f = few 3072 c.before.before.before.before.before.before.before.before.args.self.total in let e = c.before.before.before.before.numbers-held.ensures in let l = c.before.before.before.lay-out.ensures.0 in omega arith
+part_refusal_end_2 : tie.Need-slice_bounds-refusal-end-2
+part_refusal_end_2 c = let f = few 3072 c.args.self.total in let e = c.numbers_held-end.ensures in let l = c.lay_out-numbers.ensures.0 in omega arith
 
-refusal_requires : tie.Need-refusal-requires
+refusal_requires : tie.Need-refusal-refusal-requires
 refusal_requires c κs = search rules
 
 refused_requires : tie.Need-refused-requires
 refused_requires c κs = search rules
 
-returns : tie.Need-returns
+returns : tie.Need-returns-then-refusal-gt0
 returns c =
-    let st = c.before.before.before.before.before.before.before.before.before.before.before.before in
+    let st = c in
     let s = st.args.self in
     let held : length s.counts ≡ 17 = search rules in
-    let e = read_held s _ _ _ held c.before.before.before.before.before.before.before.before.before.counts-held.ensures c.before.before.before.before.before.before.before.before.numbers-held.ensures c.before.before.before.before.before.before.before.lay-out.ensures.1 c.before.before.refusal.ensures in
-    stepping_at (inner_none worked_forward s (unmapped _ s.corners st.well-formed.0.1.1.0.1.0.1) held st.requires (let h = c.before.if1.true in omega arith)) (refusing 13 s c.refused.ensures.0 c.refused.ensures.1)
+    let e = read_held s _ _ _ held c.counts_held-rings.ensures c.numbers_held-end.ensures c.lay_out-numbers.ensures.1 c.refusal-refusal.ensures in
+    stepping_at (inner_none worked_forward s st.well_formed.0.1.1.0.1.0.1 held st.requires (let h = c.if-refusal-gt0.true in omega arith)) (refusing 13 s c.refused.ensures.0 c.refused.ensures.1)
 
-refused_requires_2 : tie.Need-refused-requires-2
+refused_requires_2 : tie.Need-refused-requires-then-rings-gt16
 refused_requires_2 c κs = search rules
 
-returns_2 : tie.Need-returns-2
+returns_2 : tie.Need-returns-then-rings-gt16
 returns_2 c =
-    let st = c.before.before.before.before.before.before.before.before.before.before.before.before.before in
+    let st = c in
     let s = st.args.self in
     let held : length s.counts ≡ 17 = search rules in
-    let e = read_held s _ _ _ held c.before.before.before.before.before.before.before.before.before.before.counts-held.ensures c.before.before.before.before.before.before.before.before.before.numbers-held.ensures c.before.before.before.before.before.before.before.before.lay-out.ensures.1 c.before.before.before.refusal.ensures in
-    let k = c.before.before.before.before.before.before.before.before.before.before.counts-held.ensures in
-    stepping_at (inner_full worked_forward s (unmapped _ s.corners st.well-formed.0.1.1.0.1.0.1) held st.requires _ (read_checked (take s.rings s.counts) (flat (ring_of s.total s.corners)) (let h = c.before.before.if1.false in omega arith)).1 (let h = c.before.if2.true in omega arith)) (refusing 16 s c.refused2.ensures.0 c.refused2.ensures.1)
+    let e = read_held s _ _ _ held c.counts_held-rings.ensures c.numbers_held-end.ensures c.lay_out-numbers.ensures.1 c.refusal-refusal.ensures in
+    let k = c.counts_held-rings.ensures in
+    stepping_at (inner_full worked_forward s st.well_formed.0.1.1.0.1.0.1 held st.requires _ (read_checked (take s.rings s.counts) (flat (ring_of s.total s.corners)) (let h = c.if-refusal-gt0.false in omega arith)).1 (let h = c.if-rings-gt16.true in omega arith)) (refusing 16 s c.refused-then-rings-gt16.ensures.0 c.refused-then-rings-gt16.ensures.1)
 
-returns_3 : tie.Need-returns-3
+returns_3 : tie.Need-returns
 returns_3 c =
-    let st = c.before.before.before.before.before.before.before.before.before.before.before.before in
+    let st = c in
     let s = st.args.self in
     let held : length s.counts ≡ 17 = search rules in
-    let e = read_held s _ _ _ held c.before.before.before.before.before.before.before.before.before.counts-held.ensures c.before.before.before.before.before.before.before.before.numbers-held.ensures c.before.before.before.before.before.before.before.lay-out.ensures.1 c.before.before.refusal.ensures in
-    let k = c.before.before.before.before.before.before.before.before.before.counts-held.ensures in
-    inner_begins worked_forward s (unmapped _ s.corners st.well-formed.0.1.1.0.1.0.1) held st.requires _ (read_checked (take s.rings s.counts) (flat (ring_of s.total s.corners)) (let h = c.before.if1.false in omega arith)).1 (let h = c.if2.false in omega arith)
+    let e = read_held s _ _ _ held c.counts_held-rings.ensures c.numbers_held-end.ensures c.lay_out-numbers.ensures.1 c.refusal-refusal.ensures in
+    let k = c.counts_held-rings.ensures in
+    inner_begins worked_forward s st.well_formed.0.1.1.0.1.0.1 held st.requires _ (read_checked (take s.rings s.counts) (flat (ring_of s.total s.corners)) (let h = c.if-refusal-gt0.false in omega arith)).1 (let h = c.if-rings-gt16.false in omega arith)
 
 pub begin_inner_spec : {M : Type 1} → statement M
 begin_inner_spec =

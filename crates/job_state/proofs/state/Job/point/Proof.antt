@@ -8,14 +8,14 @@ use borrow.Author.Rules.{rules}
 use Rattle.job_state.proofs.state.Job.point.Statement.{statement}
 use Rattle.job_state.proofs.state.Job.point.Tie as tie
 
-point_answer_requires : tie.Need-point-answer-requires
+point_answer_requires : tie.Need-point_answer-requires
 point_answer_requires c κs = search rules
 
 returns : tie.Need-returns
 returns c =
-    let s = c.before.args.self in
-    read_two (λ B L. stepped worked_forward (view s) (record_case.Point c.before.args.code B L)) (λ B L. record_case.Point c.before.args.code B L) _ _ c.before.ranges.b c.before.ranges.l
-    (c.point-answer.ensures.steps s refl)
+    let s = c.args.self in
+    read_two (λ B L. stepped worked_forward (view s) (record_case.Point c.args.code B L)) (λ B L. record_case.Point c.args.code B L) _ _ c.ranges.b c.ranges.l
+    (c.point_answer.ensures.steps s refl)
 
 pub point_spec : {M : Type 1} → statement M
 point_spec = tie.close (tie.spec point_answer_requires returns)
