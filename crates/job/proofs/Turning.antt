@@ -1,4 +1,5 @@
 -- What a byte makes of a run, by what stands in the bytes that are then held; and what it asks of the job and makes of the passage. Assumes nothing.
+use mir.Syntax.{w64}
 use Rattle.std.proofs.Common.{◌≡◌, ℕ, ◌+◌, ◌-◌, ◌%◌, ◌^◌, ◌<◌, ◌≤◌, Bool, true, false, List, [], ◌∷◌, ◌++◌, length, take, ℤ, sym, refl, ap, ◌∙◌, subst, arith, length-take-le, to_z-of_z, w64, to_z, of_z, ne_eqb}
 use lib.Seq.{paste-zero}
 use lib.Signed.{mag}
@@ -87,7 +88,7 @@ module _ (run : Run) (byte : ℕ) (begun : Held) (found : reader.Read) (goes : r
 
 -- signed arguments, read back from their bits
 pub read_back : (P : ℤ → ℤ → Type 0) (x y : ℤ) → mag x < 2 ^ 63 → mag y < 2 ^ 63 → P (to_z w64 (of_z w64 x)) (to_z w64 (of_z w64 y)) → P x y
-read_back P x y f g h = subst (λ (X : ℤ). P X y) (to_z-of_z (record { sfits = f })) (subst (λ (Y : ℤ). P (to_z w64 (of_z w64 x)) Y) (to_z-of_z (record { sfits = g })) h)
+read_back P x y f g h = subst (λ (X : ℤ). P X y) (to_z-of_z {w = w64} (record { sfits = f })) (subst (λ (Y : ℤ). P (to_z w64 (of_z w64 x)) Y) (to_z-of_z {w = w64} (record { sfits = g })) h)
 
 -- ---- the passages that the calls make
 place_is : {p : Place} (q : Place) (size : ℕ) → p.offset ≡ (q.offset + size) % 2 ^ 64 → p.records ≡ (q.records + 1) % 2 ^ 64 → p ≡ place_after q size

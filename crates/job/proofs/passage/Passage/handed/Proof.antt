@@ -3,7 +3,7 @@ use Rattle.std.proofs.Common.{refl, rules}
 use Rattle.job.proofs.passage.Passage.handed.Statement.{statement}
 use Rattle.job.proofs.passage.Passage.handed.Tie as tie
 
-sub_t7 : tie.Need-overflow-sub-t7
+sub_t7 : tie.Need-overflow_sub-result
 sub_t7 c = search rules
 
 returns : tie.Need-returns

@@ -4,18 +4,18 @@ use Rattle.std.proofs.Common.{rules}
 use Rattle.job.proofs.passage.Passage.refuses.Statement.{statement}
 use Rattle.job.proofs.passage.Passage.refuses.Tie as tie
 
-refusal_line_requires : tie.Need-refusal-line-requires
+refusal_line_requires : tie.Need-refusal_line-requires
 refusal_line_requires c κs = search rules
 
-put_requires : tie.Need-put-requires
+put_requires : tie.Need-put-end-requires
 put_requires c κs = search rules
 
-same_length : tie.Need-same-length
+same_length : tie.Need-shape_of-out
 same_length c = search rules
 
 returns : tie.Need-returns
 returns c =
-    refusing c.before.before.before.before.before.before.before.before.args.self c.before.before.before.before.before.before.before.before.args.n c.before.before.before.before.refusal_line.ensures c.before.before.put.ensures.0 c.before.before.put.ensures.1
+    refusing c.args.self c.args.n c.refusal_line.ensures c.put-end.ensures.0 c.put-end.ensures.1
 
 pub refuses_spec : {M : Type 1} → statement M
 refuses_spec = tie.close (tie.spec refusal_line_requires put_requires same_length returns)

@@ -4,13 +4,13 @@ use Rattle.std.proofs.Common.{rules}
 use Rattle.job.proofs.passage.Passage.says.Statement.{statement}
 use Rattle.job.proofs.passage.Passage.says.Tie as tie
 
-answer_line_requires : tie.Need-answer-line-requires
+answer_line_requires : tie.Need-answer_line-requires
 answer_line_requires c κs = search rules
 
-put_requires : tie.Need-put-requires
+put_requires : tie.Need-put-end-requires
 put_requires c κs = search rules
 
-refuses_requires : tie.Need-refuses-requires
+refuses_requires : tie.Need-refuses-stops-requires
 refuses_requires c κs = search rules
 
 none_requires : tie.Need-none-requires
@@ -19,16 +19,16 @@ none_requires c κs = search rules
 after_requires : tie.Need-after-requires
 after_requires c κs = search rules
 
-left_after_requires : tie.Need-left-after-requires
+left_after_requires : tie.Need-left_after-requires
 left_after_requires c κs = search rules
 
-same_length : tie.Need-same-length
+same_length : tie.Need-shape_of-out
 same_length c = search rules
 
 returns : tie.Need-returns
 returns c =
-    answering c.before.before.before.before.before.before.before.before.before.before.before.args.self c.before.before.before.before.before.before.before.before.before.before.before.args.answer c.before.before.before.before.before.before.before.before.before.before.before.args.size c.before.before.before.before.before.before.before.before.answer-line.ensures c.before.before.before.before.before.before.put.ensures.0 c.before.before.before.before.before.before.put.ensures.1
-    c.before.before.none.ensures c.before.after.ensures.0 c.before.after.ensures.1 c.left_After.ensures c.before.before.before.refuses.ensures
+    answering c.args.self c.args.answer c.args.size c.answer_line.ensures c.put-end.ensures.0 c.put-end.ensures.1
+    c.none.ensures c.after.ensures.0 c.after.ensures.1 c.left_after.ensures c.refuses-stops.ensures
 
 pub says_spec : {M : Type 1} → statement M
 says_spec =

@@ -10,13 +10,13 @@ none_requires c κs = search rules
 after_requires : tie.Need-after-requires
 after_requires c κs = search rules
 
-sub_t8 : tie.Need-overflow-sub-t8
+sub_t8 : tie.Need-overflow_sub-result
 sub_t8 c = search rules
 
 returns : tie.Need-returns
 returns c =
-    rw (to_z-of_z c.before.before.before.before.ranges.x, to_z-of_z c.before.before.before.before.ranges.y)
-    (keeping c.before.before.before.before.args.self _ _ _ c.before.before.none.ensures c.before.after.ensures.0 c.before.after.ensures.1)
+    rw (to_z-of_z c.ranges.x, to_z-of_z c.ranges.y)
+    (keeping c.args.self _ _ _ c.none.ensures c.after.ensures.0 c.after.ensures.1)
 
 pub stores_spec : {M : Type 1} → statement M
 stores_spec = tie.close (tie.spec none_requires after_requires sub_t8 returns)

@@ -14,71 +14,71 @@ use Rattle.job.proofs.run.Held.with.Reads as with_reads
 use Rattle.job_state.proofs.in_place.reply_to.Reads as reply_to_reads
 
 -- the held bytes with the byte, and what stands in them
-begun : (c : lts.After-read (with_reads.Asked, with_reads.Learnt, read_reads.Asked, read_reads.Learnt, reply_to_reads.Asked, reply_to_reads.Learnt, whole_reads.Asked, whole_reads.Learnt, waits_reads.Asked, waits_reads.Learnt, refuses_reads.Asked, refuses_reads.Learnt) reads.Pre reads.Post)
-    → Begun c.before.before.before.before.before.before.before.before.args.self (get_or c.before.before.before.before.before.before.before.before.args.chunk.now (length c.before.before.before.before.before.before.before.before.args.chunk.now - c.before.before.before.before.before.before.before.before.args.self.left) 0) c.before.with.result c.read.result
+begun : (c : lts.After-read-found (with_reads.Asked, with_reads.Learnt, read_reads.Asked, read_reads.Learnt, reply_to_reads.Asked, reply_to_reads.Learnt, whole_reads.Asked, whole_reads.Learnt, waits_reads.Asked, waits_reads.Learnt, refuses_reads.Asked, refuses_reads.Learnt) reads.Pre reads.Post)
+    → Begun c.args.self (get_or c.args.chunk.now (length c.args.chunk.now - c.args.self.left) 0) c.with-begun.result c.read-found.result
 begun c = record {
-  goes = c.before.before.before.before.before.before.before.before.requires.0;
-  few = c.before.with.ensures.0;
-  held = c.before.with.ensures.1;
-  long = c.before.with.ensures.2;
-  with = c.before.with.ensures.3;
-  read = c.read.ensures;
+  goes = c.requires.0;
+  few = c.with-begun.ensures.0;
+  held = c.with-begun.ensures.1;
+  long = c.with-begun.ensures.2;
+  with = c.with-begun.ensures.3;
+  read = c.read-found.ensures;
 }
 
-sub_at : tie.Need-overflow-sub-at
+sub_at : tie.Need-overflow_sub-at
 sub_at c = search rules
 
-shared_slice_read_with : tie.Need-shared-slice-read-with
+shared_slice_read_with : tie.Need-bounds-chunk-at
 shared_slice_read_with c = search rules
 
-with_requires : tie.Need-with-requires
+with_requires : tie.Need-with-begun-requires
 with_requires c κs = search rules
 
-read_requires : tie.Need-read-requires
+read_requires : tie.Need-read-found-requires
 read_requires c κs = search rules
 
-enum_known_found : tie.Need-enum-known-found
+enum_known_found : tie.Need-enum_known-found
 enum_known_found c = search rules
 
-reply_to_requires : tie.Need-reply-to-requires
+reply_to_requires : tie.Need-reply_to-reply-requires
 reply_to_requires c κs = search rules
 
 whole_requires : tie.Need-whole-requires
 whole_requires c κs = search rules
 
-enum_known_found_2 : tie.Need-enum-known-found-2
+enum_known_found_2 : tie.Need-enum_known-found-in-Refused-1
 enum_known_found_2 c = search rules
 
 waits_requires : tie.Need-waits-requires
 waits_requires c κs = search rules
 
-returns : tie.Need-returns
+returns : tie.Need-returns-then-n-eq12
 returns c =
-    waits_on (begun c.before.before.before.before.before) _ _ c.before.before.before.found2.given.1 c.before.if1.true c.waits.ensures
+    waits_on (begun c.before.before.before) _ _ c.in-Refused.is c.if-n-eq12.true c.waits.ensures
 
 refuses_requires : tie.Need-refuses-requires
 refuses_requires c κs = search rules
 
-enum_told : tie.Need-enum-told
+enum_told : tie.Need-enum_told-1
 enum_told c = search rules
 
-same_length : tie.Need-same-length
+same_length : tie.Need-shape_of-out-in-Whole
 same_length c = search rules
 
-returns_2 : tie.Need-returns-2
+returns_2 : tie.Need-returns-in-Whole
 returns_2 c =
-    c.before.before.whole.ensures.turned _ _ _ _ _ (completes (begun c.before.before.before.before.before.before.before.before) c.before.before.before.before.before.before.found.given.1) c.before.before.before.before.reply-to.ensures
+    c.whole.ensures.turned _ _ _ _ _ (completes (begun c.before.before.before.before.before.before) c.in-Whole.is) c.reply_to-reply.ensures
 
-same_length_2 : tie.Need-same-length-2
+same_length_2 : tie.Need-shape_of-out-else-n-eq12
 same_length_2 c = search rules
 
-returns_3 : tie.Need-returns-3
+returns_3 : tie.Need-returns-else-n-eq12
 returns_3 c =
-    refuses_it (begun c.before.before.before.before.before.before.before.before) _ _ c.before.before.before.before.before.before.found2.given.1 c.before.before.before.before.if1.false c.before.before.refuses.ensures
+    refuses_it (begun c.before.before.before.before.before.before) _ _ c.in-Refused.is c.if-n-eq12.false c.refuses.ensures
 
-returns_4 : tie.Need-returns-4
+returns_4 : tie.Need-returns-in-End
 returns_4 c =
-    absurd (never_nothing (begun c.before.before) new_run.job c.enum_told.given.1)
+    absurd (never_nothing (begun c.before) new_run.job c.in-End.is)
 
 pub turn_spec : {M : Type 1} → statement M
 turn_spec =

@@ -4,23 +4,23 @@ use Rattle.job.proofs.Holding.{few, one_more, with_is}
 use Rattle.job.proofs.run.Held.with.Statement.{statement}
 use Rattle.job.proofs.run.Held.with.Tie as tie
 
-settled_requires : tie.Need-settled-requires
+settled_requires : tie.Need-settled-at-requires
 settled_requires c κs = search rules
 
-element_write_self : tie.Need-element-write-self
-element_write_self c = let f = few c.before.args.t1.count in let e = c.settled.ensures in omega arith
+element_write_self : tie.Need-bounds-self-at
+element_write_self c = let f = few c.args.self.count in let e = c.settled-at.ensures in omega arith
 
-add_self : tie.Need-overflow-add-self
-add_self c = let f = few c.before.args.t1.count in let e = c.settled.ensures in omega arith
+add_self : tie.Need-overflow_add-self
+add_self c = let f = few c.args.self.count in let e = c.settled-at.ensures in omega arith
 
 returns : tie.Need-returns
 returns c =
-    let f = few c.before.args.t1.count in
-    let l : length c.before.args.t1.bytes ≡ 18 = search rules in (
-      let e = c.settled.ensures in omega arith,
-      one_more c.before.args.t1.count _ _ c.before.args.t1.bytes l c.settled.ensures,
-      length-set c.before.args.t1.bytes _ _ ∙ l,
-      with_is c.before.args.t1 _ _ c.settled.ensures,
+    let f = few c.args.self.count in
+    let l : length c.args.self.bytes ≡ 18 = search rules in (
+      let e = c.settled-at.ensures in omega arith,
+      one_more c.args.self.count _ _ c.args.self.bytes l c.settled-at.ensures,
+      length-set c.args.self.bytes _ _ ∙ l,
+      with_is c.args.self _ _ c.settled-at.ensures,
     )
 
 pub with_spec : {M : Type 1} → statement M

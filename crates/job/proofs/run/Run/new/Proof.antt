@@ -10,7 +10,7 @@ none_requires : tie.Need-none-requires
 none_requires c κs = search rules
 
 returns : tie.Need-returns
-returns c = rw (c.none.ensures, c.before.new.ensures) refl
+returns c = rw (c.none.ensures, c.new.ensures) refl
 
 pub new_spec : {M : Type 1} → statement M
 new_spec = tie.close (tie.spec new_requires none_requires returns)
