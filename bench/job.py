@@ -4,7 +4,7 @@
     bench/run job
 
 Builds the program where something has changed. A run's time has the start of the process and the reading of standard input in it; the start alone (an empty job)
-is a row of its own. On x86-64 what is timed is the proved program; on another processor it would be the emulator, so this refuses to run there.
+is a row of its own. What is timed is the proved program, which is for x86-64, so this refuses to run on another processor.
 Assumes the kit's `rt`, Python 3.9 or newer and its standard library.
 """
 
@@ -23,10 +23,9 @@ RUNS = 3
 def command():
     if platform.machine() != "x86_64":
         sys.exit("bench/job.py: only on x86-64")
-    subprocess.run(["rt", "check", "field"], cwd=ROOT, check=True, stdin=subprocess.DEVNULL, stdout=subprocess.DEVNULL)
-    guide = subprocess.run(["rt", "doc"], cwd=ROOT, check=True, capture_output=True, text=True).stdout.strip()
-    tools = os.path.join(os.path.dirname(os.path.dirname(guide)), "on", "x86_64", "toolchain", "lib")
-    return [os.path.join(tools, "ld-linux-x86-64.so.2"), "--library-path", tools, os.path.join(ROOT, "target", "bin", "field")]
+    field = os.path.join(ROOT, "crates", "field")
+    subprocess.run(["rt", "run", "field"], cwd=field, check=True, stdin=subprocess.DEVNULL, stdout=subprocess.DEVNULL)
+    return [os.path.join(field, "out", "field")]
 
 
 def seconds(program, job):

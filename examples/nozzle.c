@@ -1,8 +1,8 @@
 /*
  * A terminal in small: is the nozzle open at a point of the square of document 01?
  *
- *     rt staticlib terminal
- *     cc -Iinclude -o nozzle examples/nozzle.c target/staticlib/libterminal.a && ./nozzle 500 500
+ *     (cd crates/terminal && rt lib)
+ *     cc -Iinclude -o nozzle examples/nozzle.c crates/terminal/out/libterminal.a && ./nozzle 500 500
  *
  * Prints open, border, shut, or the refusal. Assumes two numbers as arguments.
  */

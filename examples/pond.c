@@ -1,8 +1,8 @@
 /*
  * A terminal in small, with a pond in its field: the field is accepted once, and then asked about each point.
  *
- *     rt staticlib terminal
- *     cc -Iinclude -o pond examples/pond.c target/staticlib/libterminal.a && ./pond 300 300 200 300 100 100
+ *     (cd crates/terminal && rt lib)
+ *     cc -Iinclude -o pond examples/pond.c crates/terminal/out/libterminal.a && ./pond 300 300 200 300 100 100
  *
  * Prints open, border or shut for each point, or the refusal. Assumes pairs of numbers as arguments.
  */

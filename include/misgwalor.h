@@ -1,7 +1,7 @@
 /*
  * Misgwalor: the terminal's C interface.
  *
- * Link target/staticlib/libterminal.a (x86-64), which `rt staticlib terminal` proves and writes; examples/nozzle.c is a whole program.
+ * Link crates/terminal/out/libterminal.a (x86-64), which `rt lib` in crates/terminal proves and writes; examples/nozzle.c is a whole program.
  *
  * Every call answers on every input. It returns 0, and then the memory lent for the answer holds it; or it returns the number of a refusal (the list
  * below), and then the lent memory holds what it held before. Refusal 9, a crossed ring, alone writes something: its two edge numbers and the count of

@@ -23,7 +23,8 @@ def words(page):
 
 
 def sources(ending):
-    return sorted((ROOT / "crates").glob("*/**/*." + ending))
+    """The crates' own files; what `rt` makes of them lies in a crate's out/."""
+    return sorted(path for path in (ROOT / "crates").glob("*/**/*." + ending) if path.relative_to(ROOT).parts[2] != "out")
 
 
 def rows(page, heading):

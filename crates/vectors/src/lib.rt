@@ -6,7 +6,8 @@ mod groups;
 mod lists;
 mod tally;
 
-ghost use Rattle.std.specs.Prelude.{◌≡◌, ◌≤◌, ◌/◌, ◌*◌, length, drop, take, IfOk};
+ghost use Rattle.std.specs.Prelude.{◌≡◌, ◌≤◌, ◌<◌, length, take, IfOk, IfSome, IfNone};
+ghost use Rattle.std.specs.Io.KnownBytes.{Consumes, IsAtEnd};
 ghost use Rattle.vectors.specs.Words.{word_of, number_of};
 
 pub use groups::{Groups, outcome_of_four, outcome_of_two, source_of, target_of};
@@ -35,9 +36,11 @@ pub fn nth_number(bytes: &[u8], before: usize) -> i64
     nth_word(bytes, before).cast_signed()
 }
 
-// Reads until `bytes` is full or the input ends, and answers how many came.
+// Reads until `bytes` is full or the input ends, and answers how many came. After an `Err` nothing is said of what was read.
 pub fn read_full<R: Read>(input: &mut R, bytes: &mut [u8]) -> io::Result<usize>
-    ensures { IfOk result (λ count. count ≤ length bytes.new) }
+    ensures within { IfOk result (λ count. count ≤ length bytes.new) }
+    ensures came { IfOk result (λ count. Consumes (R.remaining input.old) (R.remaining input.new) (take count bytes.new)) }
+    ensures ended { IfOk result (λ count. count < length bytes.new → IsAtEnd (R.remaining input.new)) }
 {
     let mut count = 0;
     while count < bytes.len() {
@@ -51,7 +54,10 @@ pub fn read_full<R: Read>(input: &mut R, bytes: &mut [u8]) -> io::Result<usize>
 }
 
 // The next record of N bytes, or `None` where the input ends before it does.
-pub fn read_record<const N: usize, R: Read>(input: &mut R) -> io::Result<Option<[u8; N]>> {
+pub fn read_record<const N: usize, R: Read>(input: &mut R) -> io::Result<Option<[u8; N]>>
+    ensures came { IfOk result (λ read. IfSome read (λ whole. Consumes (R.remaining input.old) (R.remaining input.new) whole)) }
+    ensures ended { IfOk result (λ read. IfNone read (IsAtEnd (R.remaining input.new))) }
+{
     let mut record = [0u8; N];
     let count = read_full(input, &mut record)?;
     if count < N {

@@ -1,4 +1,4 @@
--- `polynomial_run::is_finite` meets its contract: x - x is 0 where x is finite, and a NaN elsewhere. Assumes nothing.
+-- x - x is 0 where x is finite, and a NaN elsewhere.
 use mathlib.Core.Path.{◌≡◌, refl, ap, ◌∙◌}
 use mathlib.Core.Bool.{Bool, true, false, not, ◌&&◌, beq, cond}
 use Prim.Native.Nat.{ℕ, ◌+◌, ◌-◌, ◌*◌, ◌<◌}
@@ -10,8 +10,7 @@ use lib.Ieee.{Float, nan, inf, fin, binary64, up, down, round, sum, add, sub, ne
 use lib.Ieee.Fits.{down_pos}
 use Rattle.double.specs.Value.{finite}
 use Rattle.double.specs.Laws.Signs.{round_zero}
-use Rattle.polynomial_run.proofs.is_finite.Statement.{statement}
-use Rattle.polynomial_run.proofs.is_finite.Tie as tie
+use Rattle.polynomial_run.proofs.is_finite.Goals as goal
 
 cancels : (s : Bool) (a c : ℕ) → 0 < c → sum binary64 s a (not s) a c ≡ fin false 0 (pos 0)
 unfolding sum
@@ -35,9 +34,6 @@ subtracted (inf true) = refl
 subtracted (inf false) = refl
 subtracted (fin s m e) = ap (λ (y : Float). eq y (fin false 0 (pos 0))) (cancels s (m * up e * down e) (down e * down e) (mul-pos (down_pos e) (down_pos e)))
 
-returns : tie.Need-returns
+pub returns : goal.returns
 unfolding of_bits
 returns c = subtracted c.args.x
-
-pub is_finite_spec : {M : Type 1} → statement M
-is_finite_spec = tie.close (tie.spec returns)
