@@ -1,5 +1,5 @@
 """Writes the statements that pin the definitions of document 01's numbers: crates/rules/specs/Tried/{Series,Points,Limits}.antt, and in
-crates/rules/specs/Laws/Tried the proofs of them, which are `refl` at each.
+crates/rules/proofs/Laws/Tried the proofs of them, which are `refl` at each.
 
     python3 reference/tried.py crates/rules
 
@@ -237,20 +237,19 @@ def proofs(module, *parts):
 
 
 def main(crate):
-    specs = Path(crate) / "specs"
     both = record("unrounded", "rounded")
     ends = record("west_taken", "east_taken", "west_beyond", "east_beyond")
     box = record("south_west_taken", "north_east_taken", "south_beyond", "north_beyond", "west_beyond", "east_beyond")
     texts = {
-        "Tried/Series": series_statements(),
-        "Tried/Points": point_statements(),
-        "Tried/Limits": limit_statements(),
-        "Laws/Tried/Series": proofs("Series", ("series", "Series", series(), "refl")),
-        "Laws/Tried/Points": proofs("Points", ("points", "Projected", list(points()), both)),
-        "Laws/Tried/Limits": proofs("Limits", ("half_widths", "HalfWidths", list(half_width_rows()), ends), ("boxes", "Boxes", list(box_rows()), box)),
+        "specs/Tried/Series": series_statements(),
+        "specs/Tried/Points": point_statements(),
+        "specs/Tried/Limits": limit_statements(),
+        "proofs/Laws/Tried/Series": proofs("Series", ("series", "Series", series(), "refl")),
+        "proofs/Laws/Tried/Points": proofs("Points", ("points", "Projected", list(points()), both)),
+        "proofs/Laws/Tried/Limits": proofs("Limits", ("half_widths", "HalfWidths", list(half_width_rows()), ends), ("boxes", "Boxes", list(box_rows()), box)),
     }
     for name, text in texts.items():
-        (specs / (name + ".antt")).write_text(text)
+        (Path(crate) / (name + ".antt")).write_text(text)
 
 
 if __name__ == "__main__":

@@ -5,4 +5,3 @@ pub mod Pairs
 pub mod Exact
 pub mod Bound
 pub mod Steps
-pub mod Laws

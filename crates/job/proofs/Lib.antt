@@ -3,3 +3,4 @@ pub mod Holding
 pub mod Advance
 pub mod Turning
 pub mod Looping
+pub mod Laws

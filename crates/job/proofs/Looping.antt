@@ -22,10 +22,10 @@ use Rattle.job.specs.declared.run.Fed as feds
 use Rattle.job.specs.declared.passage.Change.TheVariants.{Nothing, Store, LayOut, Take}
 use Rattle.job.specs.declared.passage.Passage.{Passage}
 use Rattle.job.specs.Machine.{Progress, stopped, Took, fed, used_in, held_of, progress_by}
-use Rattle.job.specs.Laws.Bytes.{then_next, then_printed, one_next, one_printed, stopped_next, stopped_printed, stopped_used, byte_used, no_room, none_used}
+use Rattle.job.proofs.Laws.Bytes.{then_next, then_printed, one_next, one_printed, stopped_next, stopped_printed, stopped_used, byte_used, no_room, none_used}
 use Rattle.job.specs.Runs.{progress, run_fed, Feeding}
 use Rattle.job.specs.Passages.{run_of, starting, answered_at, asking, Saying, Makes, Passing, Turned}
-use Rattle.job.specs.Laws.Structs.{run_then, run_one, run_stopped}
+use Rattle.job.proofs.Laws.Structs.{run_then, run_one, run_stopped}
 use Rattle.job.proofs.Turning.{kept_as, stored, unlaid_yet, asked, answered}
 
 -- after the first `at` bytes: how far the run is, and what was written

@@ -6,4 +6,3 @@
 pub mod Machine
 pub mod Runs
 pub mod Passages
-pub mod Laws

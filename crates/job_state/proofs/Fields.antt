@@ -16,7 +16,7 @@ use Rattle.rules.specs.Rings.{Corner}
 use Rattle.rules.specs.Fields.{Field}
 use Rattle.rules.specs.RingAnswers.{ring_checks}
 use Rattle.rules.specs.FieldAnswers.{alone, with_ring, inner_checks, summed, cut, uneven, inner_read, rings_read, field_read}
-use Rattle.ring_checks.specs.Laws.Accept.{judgement}
+use Rattle.ring_checks.proofs.Laws.Accept.{judgement}
 use Rattle.fields.specs.Laws.Inner.{seventeenth, too_long}
 
 clash : {A : Type 0} {a : A} {n : ℕ} → ◌≡◌ {A = Answer A} (refused n) (answered a) → ⊥

@@ -6,3 +6,4 @@ pub mod Limits
 pub mod Inner
 pub mod Steps
 pub mod InPlace
+pub mod Laws

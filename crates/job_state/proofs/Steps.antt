@@ -22,11 +22,11 @@ use Rattle.rules.specs.Rings as ring
 use Rattle.rules.specs.Fields as fields
 use Rattle.rules.specs.Fields.{field_nozzle}
 use Rattle.rules.specs.FieldAnswers.{alone, with_ring, inner_count_bad, placed, field_read, field_position_answer}
-use Rattle.rules.specs.Laws.AcceptedFields.{placed_is}
+use Rattle.rules.proofs.Laws.AcceptedFields.{placed_is}
 use Rattle.rules.specs.RingAnswers as nozzles
 use Rattle.rules.specs.RingAnswers.{number_bad, count_bad, span_bad, not_crossed}
 use Rattle.rules.specs.JobFile.{State, no_field, gathering, accepted, gathering_inner, Step, silent, print, begun, gathered, cornered, inner_cornered, closed, inner_closed, inner_begun, queried, pointed}
-use Rattle.rules.specs.Laws.Codes.{known, unknown}
+use Rattle.rules.proofs.Laws.Codes.{known, unknown}
 use Rattle.projection.specs.declared.ForwardAnswer as projected
 use Rattle.projection.specs.declared.ForwardAnswer.TheVariants as projected_case
 use Rattle.projection.specs.Answers.{forward_paper}

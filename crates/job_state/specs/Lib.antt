@@ -6,4 +6,3 @@
 pub mod Gathered
 pub mod States
 pub mod InPlace
-pub mod Laws

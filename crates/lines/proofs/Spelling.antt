@@ -10,7 +10,7 @@ use lib.Dec.{ltb}
 use lib.ListN.{length, set, drop, length-set}
 use lib.Seq.{drop-cons, drop-set-lt, get_or-set_same, drop-length}
 use Rattle.rules.specs.JobFile.{decimal}
-use Rattle.rules.specs.Laws.Job.{decimal_one, decimal_more}
+use Rattle.rules.proofs.Laws.Job.{decimal_one, decimal_more}
 
 -- the digits in front of those that stand already: none once nothing is left of the number
 abbrev pub front : ℕ → List ℕ

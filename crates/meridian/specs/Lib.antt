@@ -4,4 +4,3 @@
 --   Laws     what a model says, that every band passes its test, and that the scale before m0 is 1 there but for 10^-11 (Scale)
 pub mod Models
 pub mod Numbers
-pub mod Laws

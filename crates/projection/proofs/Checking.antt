@@ -7,7 +7,7 @@ use lib.IntN.{ℤ, pos, nat_abs, ◌-ℤ◌}
 use Rattle.rules.specs.Units.{◌°◌'◌''}
 use Rattle.rules.specs.Systems.{System, system}
 use Rattle.rules.specs.Points.{latitude_bad, longitude_bad}
-use Rattle.rules.specs.Laws.Checks.{longitude_exact}
+use Rattle.rules.proofs.Laws.Checks.{longitude_exact}
 use Rattle.systems.specs.Zones.{Stands, Sized}
 use Rattle.systems.specs.declared.Zone.{Zone}
 use Rattle.projection.specs.Located.{Taken}

@@ -12,7 +12,7 @@ use Rattle.arith.specs.Laws.Diff.{◌⊖◌, Z·ℕ}
 use Rattle.arith.specs.Laws.Machine.{v_in}
 use Rattle.arith.specs.Laws.Order.{≤ℤ_trans}
 use Rattle.rules.specs.Polynomial.{double_unit}
-use Rattle.double.specs.Laws.Operations.{double_unit_pos}
+use Rattle.double.proofs.Laws.Operations.{double_unit_pos}
 use Rattle.metres.specs.Millimetres.{Fits, truncated}
 use Rattle.systems.specs.Zones.{Sized}
 use Rattle.systems.specs.declared.Zone.{Zone}

@@ -5,5 +5,5 @@
 --   Mirror     on either side of the central meridian they answer alike (of projection_worked)
 pub mod Checked
 pub mod Stood
-pub use Rattle.projection_worked.specs.Laws.Right
-pub use Rattle.projection_worked.specs.Laws.Mirror
+pub use Rattle.projection_worked.proofs.Laws.Right
+pub use Rattle.projection_worked.proofs.Laws.Mirror

@@ -11,7 +11,7 @@ use Rattle.systems.specs.Zones.{Stands, Sized, ellipsoid_of}
 use Rattle.systems.specs.declared.Zone.{Zone}
 use Rattle.projection_worked.specs.Worked.{millionths_of}
 use Rattle.projection_worked.specs.Inverse.{mercator_pair, worked_pair, worked_ticks, ticks_from, in_system, InBox, Boxed}
-use Rattle.projection_worked.specs.Laws.InverseBox.{Millionths, zone_millionths, same_millionths, boxed}
+use Rattle.projection_worked.proofs.Laws.InverseBox.{Millionths, zone_millionths, same_millionths, boxed}
 
 -- Mercator's pair by the row
 abbrev pub row_pair : Zone → ℤ → ℤ → Pair

@@ -17,7 +17,7 @@ use mir.Val.{to_z, of_z, SFits}
 use mir.Facts.{to_z-of_z}
 use mir.ValLaws.{to_z_pos}
 use Rattle.rules.specs.JobFile.{signed, little_endian, number_at, code_of, Row, kind_row, begin_field, corner, close_ring, nozzle_query, point_to_plane, find_kind, kinds}
-use Rattle.rules.specs.Laws.Job.{signed_low}
+use Rattle.rules.proofs.Laws.Job.{signed_low}
 use Rattle.rules.specs.Refusals.{Answer, refused, kind_unknown, body_cut_off}
 use Rattle.records.specs.declared.Record as code
 use Rattle.records.specs.declared.Record.TheVariants as case

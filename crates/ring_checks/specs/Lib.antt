@@ -4,4 +4,3 @@
 --   Laws       laws; not needed to read the contracts
 pub mod Refusal
 pub mod Reach
-pub mod Laws

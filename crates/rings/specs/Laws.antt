@@ -7,9 +7,4 @@
 --   Parts      a ring made of corners of an accepted ring is accepted (for Demand)
 --   Demand     demand 3 holds of the calls
 pub use Rattle.ring_corners.specs.Laws.Flat
-pub use Rattle.ring_checks.specs.Laws.Accept
-pub mod Calls
-pub mod Standing
-pub mod Crossed
-pub mod Parts
-pub mod Demand
+pub use Rattle.ring_checks.proofs.Laws.Accept

@@ -1,3 +1,2 @@
 -- Zones: what the code's row of a system stands for. Laws: what is proved of it; not needed to read the contracts.
 pub mod Zones
-pub mod Laws

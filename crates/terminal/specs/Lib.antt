@@ -3,4 +3,3 @@
 pub mod Lent
 pub mod EastWest
 pub mod Returned
-pub mod Laws

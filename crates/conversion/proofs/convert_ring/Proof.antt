@@ -1,7 +1,7 @@
 use mathlib.Core.Path.{◌≡◌, sym, ap, ◌∙◌}
 use Rattle.rules.specs.Conversion.{verdict, held, RightConversion}
-use Rattle.rules.specs.Laws.Clauses.{both_shown}
-use Rattle.rules.specs.Laws.Legs.{conversion_right}
+use Rattle.rules.proofs.Laws.Clauses.{both_shown}
+use Rattle.rules.proofs.Laws.Legs.{conversion_right}
 use Rattle.projection.specs.Laws.Right.{right}
 use Rattle.conversion.specs.Codes.{verdict_paper}
 use Rattle.conversion.specs.Ring.{worked_conversion}

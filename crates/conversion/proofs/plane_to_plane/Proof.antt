@@ -1,8 +1,8 @@
 use mathlib.Core.Path.{◌≡◌, sym, ap, ap₂, ◌∙◌}
 use mir.Facts.{to_z-of_z}
 use Rattle.rules.specs.Points.{RightPlane}
-use Rattle.rules.specs.Laws.Clauses.{banded}
-use Rattle.rules.specs.Laws.Legs.{plane_right}
+use Rattle.rules.proofs.Laws.Clauses.{banded}
+use Rattle.rules.proofs.Laws.Legs.{plane_right}
 use Rattle.projection.specs.Laws.Right.{right}
 use Rattle.conversion.specs.Codes.{verdict_paper}
 use Rattle.conversion.specs.Plane.{carried}

@@ -2,7 +2,7 @@
 use mathlib.Core.Path.{◌≡◌, sym, ◌∙◌, ap}
 use Rattle.rules.specs.Rings.{Corner}
 use Rattle.rules.specs.FieldAnswers.{accept_answer, field_position_answer}
-use Rattle.rules.specs.Laws.AcceptedFields.{position_is_field_nozzle, nozzle_refused, nozzle_crossed}
+use Rattle.rules.proofs.Laws.AcceptedFields.{position_is_field_nozzle, nozzle_refused, nozzle_crossed}
 use Rattle.ring_corners.specs.Laws.Signed.{raw_is}
 use Rattle.fields.specs.Answers.{field_paper}
 use Rattle.fields.specs.declared.FieldAnswer.{FieldAnswer}

@@ -8,7 +8,7 @@ use Rattle.rules.specs.Refusals.{Answer, refused, too_many_rings, corner_count}
 use Rattle.rules.specs.Rings.{Corner}
 use Rattle.rules.specs.RingAnswers.{count_bad, ring_checks}
 use Rattle.rules.specs.FieldAnswers.{inner_count_bad, inner_checks}
-use Rattle.rules.specs.Laws.Checks.{or_true}
+use Rattle.rules.proofs.Laws.Checks.{or_true}
 use Rattle.ring_corners.specs.Corners.{pairs}
 use Rattle.ring_corners.specs.Laws.Flat.{count_of, corners_even, corners_odd}
 

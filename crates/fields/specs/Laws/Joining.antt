@@ -14,7 +14,7 @@ use Rattle.rules.specs.Fields.{Field}
 use Rattle.rules.specs.Placing.{misplaced}
 use Rattle.rules.specs.FieldAnswers.{with_ring, inner_checks, placed}
 use Rattle.ring_corners.specs.Corners.{pairs, Accepted}
-use Rattle.ring_checks.specs.Laws.Accept.{judgement}
+use Rattle.ring_checks.proofs.Laws.Accept.{judgement}
 use Rattle.fields.specs.Placed.{as_field, one_more, passed_one}
 use Rattle.fields.specs.Laws.Inner.{seventeenth, too_long, not_long}
 use Rattle.fields.specs.Laws.Placed.{inner_rings_of}

@@ -10,7 +10,7 @@ use Rattle.rules.specs.Rings.{Corner}
 use Rattle.rules.specs.RingAnswers.{ring_checks, not_crossed, crossing_answer}
 use Rattle.rules.specs.FieldAnswers.{alone, summed, cut, uneven, outer_accepted, inner_accepted, rings_accepted, field_accepted, accept_answer}
 use Rattle.ring_corners.specs.Corners.{pairs, Accepted}
-use Rattle.ring_checks.specs.Laws.Accept.{judgement}
+use Rattle.ring_checks.proofs.Laws.Accept.{judgement}
 use Rattle.fields.specs.Placed.{as_field, the_rest}
 use Rattle.fields.specs.Laws.Cut.{cut_at}
 use Rattle.fields.specs.Laws.Joining.{never_refused}

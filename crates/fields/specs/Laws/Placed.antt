@@ -9,9 +9,9 @@ use Rattle.rules.specs.RingAnswers.{ring_checks, not_crossed}
 use Rattle.rules.specs.Fields.{Field}
 use Rattle.rules.specs.Placing.{misplaced}
 use Rattle.rules.specs.FieldAnswers.{alone, with_ring, inner_checks, placed, summed, cut, outer_accepted, inner_accepted, rings_accepted, inner_read, rings_read}
-use Rattle.rules.specs.Laws.AcceptedFields.{placed_is}
+use Rattle.rules.proofs.Laws.AcceptedFields.{placed_is}
 use Rattle.ring_corners.specs.Corners.{pairs, Accepted}
-use Rattle.ring_checks.specs.Laws.Accept.{judgement}
+use Rattle.ring_checks.proofs.Laws.Accept.{judgement}
 use Rattle.fields.specs.Placed.{as_field, one_more, the_rest}
 use Rattle.fields.specs.Laws.Inner.{seventeenth, too_long, not_long}
 

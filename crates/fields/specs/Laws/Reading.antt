@@ -16,7 +16,7 @@ use Rattle.rules.specs.Fields.{Field}
 use Rattle.rules.specs.FieldAnswers.{alone, with_ring, inner_checks, placed, summed, cut, uneven, inner_read, rings_read, field_read, join_answer}
 use Rattle.ring_corners.specs.Corners.{pairs, Accepted}
 use Rattle.ring_checks.specs.Refusal.{refusal_of}
-use Rattle.ring_checks.specs.Laws.Accept.{judgement}
+use Rattle.ring_checks.proofs.Laws.Accept.{judgement}
 use Rattle.fields.specs.Placed.{as_field, one_more, passed_one, Checked}
 use Rattle.fields.specs.Laws.Cut.{summed_more, summed_most, cut_at, length_cut}
 use Rattle.fields.specs.Laws.Inner.{seventeenth, too_long, not_long}

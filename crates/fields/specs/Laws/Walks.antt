@@ -10,7 +10,8 @@ use Rattle.rules.specs.Rings.{Corner}
 use Rattle.rules.specs.RingAnswers.{Nozzle, nozzle, ring_checks}
 use Rattle.rules.specs.Fields.{Field, field_nozzle}
 use Rattle.rules.specs.FieldAnswers.{alone, with_ring, summed, cut, inner_checks, inner_read, rings_read}
-use Rattle.rules.specs.Laws.Fields.{beside, alone_nozzle, more_nozzle}
+use Rattle.rules.specs.Laws.Fields.{beside}
+use Rattle.rules.proofs.Laws.Fields.{alone_nozzle, more_nozzle}
 use Rattle.rings.specs.Answers.{position_answer}
 use Rattle.fields.specs.Laws.Cut.{summed_more, summed_most, cut_at, length_cut}
 use Rattle.fields.specs.Walks.{rings_position, inner_position, both_answers, walked}

@@ -17,7 +17,7 @@ use mir.Val.{SFits, to_z}
 use mir.ValLaws.{to_z_pos, to_z-of_z}
 use Rattle.rules.specs.Polynomial.{double_unit}
 use Rattle.double.specs.Value.{signed, value, Number, digits, power}
-use Rattle.double.specs.Laws.Pattern.{sign_bit, field, pattern_value}
+use Rattle.double.proofs.Laws.Pattern.{sign_bit, field, pattern_value}
 use Rattle.metres.specs.Millimetres.{truncated, nearest_millimetres, Fits, in_millimetres}
 use Rattle.metres.specs.Laws.Bits.{no_nan}
 use Rattle.metres.specs.Laws.Answer.{answer_small, in_signed}

@@ -10,9 +10,9 @@ use Rattle.arith.specs.Laws.Ring.{ring, Z·ring, by_ring}
 use Rattle.rules.specs.Scaled.{unit}
 use Rattle.rules.specs.Polynomial.{double_unit}
 use Rattle.double.specs.Value.{signed}
-use Rattle.double.specs.Laws.Operations.{double_unit_pos}
-use Rattle.double.specs.Laws.Rounding.{closest_half}
-use Rattle.double.specs.Laws.Signs.{closest_zero}
+use Rattle.double.proofs.Laws.Operations.{double_unit_pos}
+use Rattle.double.proofs.Laws.Rounding.{closest_half}
+use Rattle.double.proofs.Laws.Signs.{closest_zero}
 use Rattle.metres.specs.Millimetres.{truncated, nearest_millimetres, Fits, Scale, in_millimetres}
 
 -- ---- the answer fits an i64

@@ -9,7 +9,7 @@ use Rattle.std.specs.Float.{nan, inf, fin, binary64}
 use Rattle.std.specs.Float.Ieee.{is_nan, to_bits}
 use Rattle.rules.specs.Polynomial.{double_unit}
 use Rattle.double.specs.Value.{finite, value, Number}
-use Rattle.double.specs.Laws.Pattern.{field, pattern_abs, digits_zero, digits_suc}
+use Rattle.double.proofs.Laws.Pattern.{field, pattern_abs, digits_zero, digits_suc}
 use Rattle.metres.specs.Millimetres.{truncated}
 
 pub no_nan : (x : Float) → T (finite x) → T (not (is_nan x))

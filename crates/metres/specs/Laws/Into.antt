@@ -15,12 +15,12 @@ use Rattle.double.specs.Pairs.{◌⊝◌, ◌⊙◌}
 use Rattle.double.specs.Exact.{nearest_double}
 use Rattle.double.specs.Bound.{Inside, Apart, reach}
 use Rattle.double.specs.Steps.{AllFinite}
-use Rattle.double.specs.Laws.Operations.{double_unit_pos, mul_near, RoundedProduct}
-use Rattle.double.specs.Laws.Nearness.{near_size}
-use Rattle.double.specs.Laws.Modulus.{modulus_parts}
-use Rattle.double.specs.Laws.Promise.{small_inside}
-use Rattle.double.specs.Laws.Whole.{halved}
-use Rattle.double.specs.Laws.Steps.{product_finite}
+use Rattle.double.proofs.Laws.Operations.{double_unit_pos, mul_near, RoundedProduct}
+use Rattle.double.proofs.Laws.Nearness.{near_size}
+use Rattle.double.proofs.Laws.Modulus.{modulus_parts}
+use Rattle.double.proofs.Laws.Promise.{small_inside}
+use Rattle.double.proofs.Laws.Whole.{halved}
+use Rattle.double.proofs.Laws.Steps.{product_finite}
 use Rattle.metres.specs.Metres.{thirtieth, two_millionths, metres_of, argument_of, argument_doubles, arguments_of}
 
 -- ---- the two constants

@@ -5,7 +5,7 @@ use native.Mathlib.Nat.{le_trans, suc-mul, mul-sub, mul_comm, le_of_mul-le-mul_r
 use Rattle.std.proofs.Math.Decide.{dec_le}
 use Rattle.std.proofs.Math.Arith.{digits_div, digits_mod}
 use Rattle.std.specs.Float.Ieee.Nearest.{closest}
-use Rattle.double.specs.Laws.Rounding.{closest_up, closest_tie, closest_down}
+use Rattle.double.proofs.Laws.Rounding.{closest_up, closest_tie, closest_down}
 
 -- a quotient and a rest that are known
 module _ (n r d : ℕ) (l : r < d) where

@@ -6,7 +6,7 @@ use Rattle.arith.specs.Laws.Order.{abs_add, abs_mul}
 use Rattle.arith.specs.Laws.Ring.{ring, Z·ring, by_ring}
 use Rattle.rules.specs.Scaled.{unit}
 use Rattle.rules.specs.Polynomial.{double_unit}
-use Rattle.double.specs.Laws.Operations.{double_unit_pos}
+use Rattle.double.proofs.Laws.Operations.{double_unit_pos}
 use Rattle.metres.specs.Millimetres.{Scale, truncated, in_millimetres}
 use Rattle.metres.specs.Laws.Answer.{millimetres_within}
 

@@ -11,7 +11,7 @@ use Rattle.double.specs.Value.{value}
 use Rattle.double.specs.Complex.{horner}
 use Rattle.double.specs.Exact.{doubles}
 use Rattle.double.specs.Bound.{Apart, Defined}
-use Rattle.double.specs.Laws.Systems.{small_reach, forward_defined, inverse_defined, derivative_defined}
+use Rattle.double.proofs.Laws.Systems.{small_reach, forward_defined, inverse_defined, derivative_defined}
 use Rattle.metres.specs.Metres.{argument_of, arguments_of}
 use Rattle.metres.specs.Laws.Into.{per_one, below_53, arguments_inside, argument_apart, arguments_apart}
 

@@ -9,7 +9,7 @@ use lib.IntN.{pos}
 use lib.Ieee.{Float, nan, inf, fin, binary64, up, down, round, sum, add, sub, neg, eq, of_bits}
 use lib.Ieee.Fits.{down_pos}
 use Rattle.double.specs.Value.{finite}
-use Rattle.double.specs.Laws.Signs.{round_zero}
+use Rattle.double.proofs.Laws.Signs.{round_zero}
 use Rattle.polynomial_run.proofs.is_finite.Goals as goal
 
 cancels : (s : Bool) (a c : ℕ) → 0 < c → sum binary64 s a (not s) a c ≡ fin false 0 (pos 0)

@@ -8,7 +8,7 @@ use lib.IntN.{nat_abs}
 use lib.Ieee.{Float, binary64, to_bits}
 use Rattle.rules.specs.Polynomial.{double_unit}
 use Rattle.double.specs.Value.{value, Number, digits, power}
-use Rattle.double.specs.Laws.Pattern.{field, pattern_abs}
+use Rattle.double.proofs.Laws.Pattern.{field, pattern_abs}
 use Rattle.metres.specs.Laws.Bits.{no_nan}
 use Rattle.polynomial_run.proofs.placed_number.Goals as goal
 

@@ -2,10 +2,10 @@
 use mathlib.Core.Path.{◌≡◌, sym, ap, ap₂, ◌∙◌, subst}
 use mir.Facts.{to_z-of_z}
 use Rattle.rules.specs.Points.{RightForward}
-use Rattle.rules.specs.Laws.Clauses.{banded}
+use Rattle.rules.proofs.Laws.Clauses.{banded}
 use Rattle.systems.specs.Zones.{Found}
 use Rattle.projection_worked.specs.Worked.{worked_forward}
-use Rattle.projection_worked.specs.Laws.Point.{forward_right}
+use Rattle.projection_worked.proofs.Laws.Point.{forward_right}
 use Rattle.projection.specs.Laws.Checked.{no_system}
 use borrow.Author.Rules.{rules}
 use Rattle.projection.proofs.forward.Statement.{statement}

@@ -2,12 +2,12 @@
 use mathlib.Core.Path.{sym, ap₂, ◌∙◌, subst}
 use mir.Facts.{to_z-of_z}
 use Rattle.rules.specs.Points.{RightInverse}
-use Rattle.rules.specs.Laws.Clauses.{banded}
+use Rattle.rules.proofs.Laws.Clauses.{banded}
 use Rattle.systems.specs.Zones.{Found}
 use Rattle.systems.specs.declared.ZoneAnswer.TheVariants.{Known}
 use Rattle.projection_worked.specs.Inverse.{in_system}
-use Rattle.projection_worked.specs.Laws.Inverse.{inverse_right}
-use Rattle.projection_worked.specs.Laws.InverseChecked.{worked_known, worked_unknown}
+use Rattle.projection_worked.proofs.Laws.Inverse.{inverse_right}
+use Rattle.projection_worked.proofs.Laws.InverseChecked.{worked_known, worked_unknown}
 use borrow.Author.Rules.{rules}
 use Rattle.projection.proofs.inverse.Statement.{statement}
 use Rattle.projection.proofs.inverse.Tie as tie

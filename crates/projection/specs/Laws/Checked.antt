@@ -6,7 +6,7 @@ use Rattle.rules.specs.Units.{◌°◌'◌''}
 use Rattle.rules.specs.Refusals.{Answer, answered, refused, ◌>>=◌}
 use Rattle.rules.specs.Systems.{System, system}
 use Rattle.rules.specs.Points.{Point, plane_of, latitude_bad, longitude_bad, forward_checks}
-use Rattle.rules.specs.Laws.Checks.{forward_1, forward_2, forward_3, forward_passes}
+use Rattle.rules.proofs.Laws.Checks.{forward_1, forward_2, forward_3, forward_passes}
 use Rattle.projection_worked.specs.Worked.{worked_X, worked_Y, worked_scale, worked_convergence, worked_point, worked_forward}
 
 module _ (code : ℕ) (B L : ℤ) where

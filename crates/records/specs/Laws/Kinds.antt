@@ -3,7 +3,7 @@ use Rattle.std.specs.Prelude.{Bool, true, false, ◌&&◌, List, [], ◌∷◌, 
 use Rattle.std.proofs.Common.{leb→le}
 use Rattle.rules.specs.Refusals.{Answer, answered, refused, kind_unknown}
 use Rattle.rules.specs.JobFile.{Row, kinds, find_kind}
-use Rattle.rules.specs.Laws.Meeting.{T_and}
+use Rattle.rules.proofs.Laws.Meeting.{T_and}
 
 pub data Found : Answer Row → Type 0 where
   here : (k : Row) → k.body_length ≤ 17 → Found (answered k)

@@ -6,7 +6,7 @@ use Rattle.std.specs.Int.Signed.{lt_z, ≤ℤ_refl}
 use Rattle.arith.specs.Laws.Order.{≤ℤ_trans, <ℤ→≤ℤ}
 use Rattle.rules.specs.Rings.{Corner, origin}
 use Rattle.rules.specs.RingAnswers.{smaller, larger}
-use Rattle.rules.specs.Laws.Checks.{lt_z_true, lt_z_false}
+use Rattle.rules.proofs.Laws.Checks.{lt_z_true, lt_z_false}
 use Rattle.ring_corners.specs.Corners.{corner}
 use Rattle.ring_boxes.specs.Boxes.{Spans}
 

@@ -1,7 +1,7 @@
 -- `greater` is the larger of two numbers, as the rules have it. Assumes nothing.
 use mathlib.Core.Path.{sym, ◌∙◌}
 use Rattle.arith.specs.Laws.Machine.{v_fit, lt_yes, lt_no}
-use Rattle.ring_checks.specs.Laws.Axis.{larger_yes, larger_no}
+use Rattle.ring_checks.proofs.Laws.Axis.{larger_yes, larger_no}
 use Rattle.ring_checks.proofs.greater.Statement.{statement}
 use Rattle.ring_checks.proofs.greater.Tie as tie
 

@@ -1,7 +1,7 @@
 -- `lesser` is the smaller of two numbers, as the rules have it. Assumes nothing.
 use mathlib.Core.Path.{sym, ◌∙◌}
 use Rattle.arith.specs.Laws.Machine.{v_fit, lt_yes, lt_no}
-use Rattle.ring_checks.specs.Laws.Axis.{smaller_yes, smaller_no}
+use Rattle.ring_checks.proofs.Laws.Axis.{smaller_yes, smaller_no}
 use Rattle.ring_checks.proofs.lesser.Statement.{statement}
 use Rattle.ring_checks.proofs.lesser.Tie as tie
 

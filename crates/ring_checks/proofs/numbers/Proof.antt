@@ -13,7 +13,7 @@ use Rattle.ring_corners.specs.Corners.{pairs}
 use Rattle.ring_checks.specs.Reach.{either_refusal}
 use Rattle.ring_corners.specs.Laws.Flat.{count_half}
 use Rattle.ring_corners.specs.Laws.Signed.{held}
-use Rattle.ring_checks.specs.Laws.Axis.{Reaching, reaching_start, reaching_step, reaching_end, either_axes}
+use Rattle.ring_checks.proofs.Laws.Axis.{Reaching, reaching_start, reaching_step, reaching_end, either_axes}
 use borrow.Author.Rules.{rules}
 use Rattle.ring_checks.proofs.numbers.Statement.{statement}
 use Rattle.ring_checks.proofs.numbers.Tie as tie

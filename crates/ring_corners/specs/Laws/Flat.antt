@@ -6,7 +6,7 @@ use Rattle.std.specs.Int.{w64}
 use Rattle.rules.specs.Refusals.{Answer, answered, refused}
 use Rattle.rules.specs.RingAnswers.{corners, numbers_of}
 use Rattle.rules.specs.Rings.{Corner, origin}
-use Rattle.rules.specs.Laws.RingChecks.{corners_of, even_or_odd}
+use Rattle.rules.proofs.Laws.RingChecks.{corners_of, even_or_odd}
 use Rattle.ring_corners.specs.Corners.{pairs, Accepted, next_of}
 
 twice : (i : ℕ) → 2 * suc i ≡ suc (suc (2 * i))

@@ -9,8 +9,8 @@ use Rattle.arith.specs.Laws.Diff.{◌⊖◌, Z·ℕ, Z·abs, lin}
 use Rattle.arith.specs.Laws.Order.{≤ℤ_or-<ℤ, ≤ℤ_antisym, <ℤ→≤ℤ, mul_nonneg, mul_pos_pos, sub_nonneg, sub_pos, +ℤ_mono-<}
 use Rattle.arith.specs.Laws.Ring.{ring, Z·ring, by_ring}
 use Rattle.rules.specs.Rings.{Corner, Edge, D, turn, bit, ◌to◌, is_zero, between, on}
-use Rattle.rules.specs.Laws.Checks.{lt_z_true, lt_z_false}
-use Rattle.rules.specs.Laws.Sums.{side_back}
+use Rattle.rules.proofs.Laws.Checks.{lt_z_true, lt_z_false}
+use Rattle.rules.proofs.Laws.Sums.{side_back}
 use Rattle.ring_corners.specs.Corners.{Apart, Near, Wide}
 use Rattle.ring_corners.specs.Sides.{sign_of, rise_of, fall_of}
 use Rattle.ring_corners.specs.declared.sides.Sign.{Sign}

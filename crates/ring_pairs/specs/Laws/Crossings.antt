@@ -9,9 +9,9 @@ use Rattle.arith.specs.Laws.Order.{≤ℤ-<ℤ_trans, <ℤ_trans, <ℤ→≤ℤ}
 use Rattle.rules.specs.Rings.{Corner, ◌to◌, D, is_zero}
 use Rattle.rules.specs.RingAnswers.{smaller, larger}
 use Rattle.rules.specs.Crossing.{before, overlap, aside, meets, folds}
-use Rattle.rules.specs.Laws.Checks.{lt_z_true, lt_z_false, or_true, or_false}
-use Rattle.rules.specs.Laws.Meeting.{T_and}
-use Rattle.rules.specs.Laws.Folding.{T_zero}
+use Rattle.rules.proofs.Laws.Checks.{lt_z_true, lt_z_false, or_true, or_false}
+use Rattle.rules.proofs.Laws.Meeting.{T_and}
+use Rattle.rules.proofs.Laws.Folding.{T_zero}
 use Rattle.ring_pairs.specs.Crossings.{outside, away, straddle, ahead, no_length}
 use Rattle.ring_corners.specs.Sides.{sign_of}
 use Rattle.ring_corners.specs.Laws.Sides.{le_z_true, le_z_false}

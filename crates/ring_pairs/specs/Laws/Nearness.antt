@@ -6,7 +6,7 @@ use Rattle.arith.specs.Laws.Diff.{Z·abs, lin}
 use Rattle.arith.specs.Laws.Order.{abs_sub_comm}
 use Rattle.rules.specs.Rings.{Corner, origin}
 use Rattle.rules.specs.RingAnswers.{smaller, larger}
-use Rattle.rules.specs.Laws.Checks.{lt_z_false, or_false}
+use Rattle.rules.proofs.Laws.Checks.{lt_z_false, or_false}
 use Rattle.ring_corners.specs.Corners.{corner, pairs, Apart, Near, Accepted}
 use Rattle.ring_corners.specs.Laws.Sides.{near_wide}
 use Rattle.ring_boxes.specs.Boxes.{Inside}

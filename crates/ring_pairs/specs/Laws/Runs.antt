@@ -4,7 +4,7 @@ use Rattle.std.proofs.Common.{sym, subst, inl, inr, ⊎_elim, arith}
 use Rattle.std.specs.Int.Signed.{lt_z, <ℤ-≤ℤ_trans}
 use Rattle.arith.specs.Laws.Order.{≤ℤ-<ℤ_trans}
 use Rattle.rules.specs.Rings.{Corner, origin}
-use Rattle.rules.specs.Laws.Checks.{lt_z_true, or_true}
+use Rattle.rules.proofs.Laws.Checks.{lt_z_true, or_true}
 use Rattle.ring_corners.specs.Laws.Tests.{and_true}
 use Rattle.ring_boxes.specs.Boxes.{Inside, RunEnd, Boxed}
 use Rattle.ring_pairs.specs.Crossings.{outside, away, Skipped}

@@ -9,7 +9,7 @@ use Rattle.std.proofs.Math.Decide.{dec_lt}
 use Rattle.std.proofs.Math.ListN.{length}
 use Rattle.rules.specs.Rings.{Corner, Edge, ◌to◌, origin, edge, edges, EdgePair}
 use Rattle.rules.specs.Crossing.{meets, folds, bad, first_with}
-use Rattle.rules.specs.Laws.Edges.{length_edges, edge_at, edge_last}
+use Rattle.rules.proofs.Laws.Edges.{length_edges, edge_at, edge_last}
 use Rattle.ring_pairs.specs.Crossings.{away, straddle, BoxOf, Skipped, FirstNear, FirstMet, pair_at, pair_after}
 use Rattle.ring_pairs.specs.Laws.Crossings.{away_apart, near_sides}
 use Rattle.ring_corners.specs.Laws.Tests.{and_left, and_right}

@@ -8,8 +8,8 @@ use Rattle.std.specs.Int.Signed.{lt_z, <ℤ-≤ℤ_trans}
 use Rattle.arith.specs.Laws.Order.{≤ℤ-<ℤ_trans}
 use Rattle.rules.specs.Rings.{Corner, Edge, ◌to◌, origin, edges, turning_number, is_zero}
 use Rattle.rules.specs.Placing.{meets_one, rings_meet, first_outside, entangled}
-use Rattle.rules.specs.Laws.Checks.{lt_z_true, or_true}
-use Rattle.rules.specs.Laws.Outside.{below_x, above_x, below_y, above_y}
+use Rattle.rules.proofs.Laws.Checks.{lt_z_true, or_true}
+use Rattle.rules.proofs.Laws.Outside.{below_x, above_x, below_y, above_y}
 use Rattle.ring_corners.specs.Corners.{corner}
 use Rattle.ring_boxes.specs.Boxes.{Inside, Spans}
 use Rattle.ring_boxes.specs.declared.Reach.{Reach}

@@ -8,8 +8,8 @@ use Rattle.rules.specs.Rings.{Corner, Edge, ◌to◌, origin, edge, edges}
 use Rattle.rules.specs.Crossing.{meets}
 use Rattle.rules.specs.Placing.{meets_one, any_meet}
 use Rattle.rules.specs.RingAnswers.{smaller, larger}
-use Rattle.rules.specs.Laws.Checks.{lt_z_true, or_true}
-use Rattle.rules.specs.Laws.Edges.{length_edges}
+use Rattle.rules.proofs.Laws.Checks.{lt_z_true, or_true}
+use Rattle.rules.proofs.Laws.Edges.{length_edges}
 use Rattle.ring_corners.specs.Corners.{corner}
 use Rattle.ring_corners.specs.Laws.Tests.{and_true}
 use Rattle.ring_boxes.specs.Boxes.{Inside, Spans}

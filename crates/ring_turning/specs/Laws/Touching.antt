@@ -6,8 +6,8 @@ use Rattle.std.proofs.Math.Dec.{leb-zero, leb-suc-zero, leb-suc-suc}
 use Rattle.std.specs.Int.Signed.{le_z, lt_z, clash_ℤ}
 use Rattle.arith.specs.Laws.Order.{≤ℤ_or-<ℤ, <ℤ→≤ℤ}
 use Rattle.rules.specs.Rings.{Corner, Edge, D, turn, ◌to◌, is_zero, between, on}
-use Rattle.rules.specs.Laws.Checks.{or_true, or_false}
-use Rattle.rules.specs.Laws.Sums.{side_back}
+use Rattle.rules.proofs.Laws.Checks.{or_true, or_false}
+use Rattle.rules.proofs.Laws.Sums.{side_back}
 use Rattle.ring_corners.specs.Corners.{Near}
 use Rattle.ring_corners.specs.Sides.{sign_of, rise_of, fall_of}
 use Rattle.ring_turning.specs.Touching.{touch_of, touch_rise, touch_fall, touch_flat}

@@ -7,7 +7,7 @@ use Rattle.std.specs.Int.{w64}
 use Rattle.arith.specs.Laws.Order.{abs_add}
 use Rattle.arith.specs.Laws.Within.{by_abs, w_fits}
 use Rattle.rules.specs.Rings.{Corner, Edge, ◌to◌, origin, edges, total, turn, turning_number}
-use Rattle.rules.specs.Laws.Edges.{length_edges, edge_at, edge_last, total_more}
+use Rattle.rules.proofs.Laws.Edges.{length_edges, edge_at, edge_last, total_more}
 use Rattle.ring_corners.specs.Corners.{next_of}
 use Rattle.ring_corners.specs.Laws.Flat.{next_is, next_none}
 use Rattle.ring_corners.specs.Laws.Sides.{turn_size}

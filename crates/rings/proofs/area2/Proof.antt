@@ -6,7 +6,7 @@ use Rattle.rules.specs.Refusals.{Answer, answered}
 use Rattle.rules.specs.Rings.{Corner, area2}
 use Rattle.rules.specs.RingAnswers.{area_answer}
 use lib.IntN.{ℤ}
-use Rattle.rings.specs.Laws.Calls.{refuses, answers, accepts}
+use Rattle.rings.proofs.Laws.Calls.{refuses, answers, accepts}
 use Rattle.ring_corners.specs.Laws.Signed.{held}
 use borrow.Author.Rules.{rules}
 use Rattle.rings.proofs.area2.Statement.{statement}

@@ -1,7 +1,7 @@
 -- Refused as the checks refuse; otherwise the first crossed pair, or none. Assumes nothing.
 use mathlib.Core.Path.{◌∙◌}
 use Rattle.rules.specs.RingAnswers.{not_crossed, crossing_answer}
-use Rattle.rings.specs.Laws.Calls.{refuses, answers, accepts}
+use Rattle.rings.proofs.Laws.Calls.{refuses, answers, accepts}
 use borrow.Author.Rules.{rules}
 use Rattle.rings.proofs.crossing.Statement.{statement}
 use Rattle.rings.proofs.crossing.Tie as tie

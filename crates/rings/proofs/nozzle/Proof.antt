@@ -7,7 +7,7 @@ use Rattle.rules.specs.Rings.{Corner}
 use Rattle.rules.specs.RingAnswers.{Nozzle, nozzle, not_crossed, nozzle_answer}
 use Rattle.rings.specs.Answers.{crossing_paper}
 use Rattle.ring_corners.specs.Corners.{corner, pairs}
-use Rattle.rings.specs.Laws.Calls.{refuses, answers, accepts}
+use Rattle.rings.proofs.Laws.Calls.{refuses, answers, accepts}
 use Rattle.ring_corners.specs.Laws.Signed.{raw_is}
 use Rattle.rings.specs.declared.CrossingAnswer.{CrossingAnswer}
 use borrow.Author.Rules.{rules}

@@ -6,7 +6,7 @@ use Rattle.rules.specs.Rings.{Corner}
 use Rattle.rules.specs.RingAnswers.{Nozzle, nozzle}
 use Rattle.rings.specs.Answers.{position_answer}
 use Rattle.ring_corners.specs.Corners.{corner, pairs}
-use Rattle.rings.specs.Laws.Calls.{refuses, answers, accepts}
+use Rattle.rings.proofs.Laws.Calls.{refuses, answers, accepts}
 use Rattle.ring_corners.specs.Laws.Signed.{raw_is}
 use borrow.Author.Rules.{rules}
 use Rattle.rings.proofs.position.Statement.{statement}

@@ -7,7 +7,7 @@ use Rattle.rules.specs.Refusals.{Answer, answered}
 use Rattle.rules.specs.Rings.{Corner, turning_number}
 use Rattle.rules.specs.RingAnswers.{turning_answer}
 use Rattle.ring_corners.specs.Corners.{corner, pairs}
-use Rattle.rings.specs.Laws.Calls.{refuses, answers, accepts}
+use Rattle.rings.proofs.Laws.Calls.{refuses, answers, accepts}
 use Rattle.ring_corners.specs.Laws.Signed.{held, raw_is}
 use borrow.Author.Rules.{rules}
 use Rattle.rings.proofs.turning_number.Statement.{statement}

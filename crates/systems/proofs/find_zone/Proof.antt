@@ -4,9 +4,9 @@ use Prim.Native.Nat.{ℕ, suc, ◌≤◌}
 use native.Mathlib.Omega.{arith}
 use Rattle.rules.specs.Refusals.{answered}
 use Rattle.rules.specs.Systems.{System, system, find, table}
-use Rattle.rules.specs.Laws.Codes.{unknown}
+use Rattle.rules.proofs.Laws.Codes.{unknown}
 use Rattle.systems.specs.Zones.{Found}
-use Rattle.systems.specs.Laws.Rows.{row}
+use Rattle.systems.proofs.Laws.Rows.{row}
 use Rattle.systems.specs.declared.Zone.{Zone}
 use Rattle.systems.specs.declared.ZoneAnswer.TheVariants.{Known}
 use Rattle.systems.proofs.find_zone.Statement.{statement}

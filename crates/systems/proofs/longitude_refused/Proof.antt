@@ -4,7 +4,7 @@ use mathlib.Core.Path.{sym, ◌∙◌}
 use mir.Syntax.{w64}
 use mir.Facts.{to_z-of_z}
 use Rattle.arith.specs.Laws.Machine.{v_in, v_add, v_sub, need_add, need_sub}
-use Rattle.systems.specs.Laws.Limits.{same_beyond, longitude_limits}
+use Rattle.systems.proofs.Laws.Limits.{same_beyond, longitude_limits}
 use Rattle.systems.proofs.longitude_refused.Statement.{statement}
 use Rattle.systems.proofs.longitude_refused.Tie as tie
 use Rattle.systems.proofs.longitude_refused.Reads as reads

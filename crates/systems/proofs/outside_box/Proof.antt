@@ -3,7 +3,7 @@ use borrow.Author.Rules.{rules}
 use mathlib.Core.Path.{◌∙◌}
 use mir.Syntax.{w64}
 use mir.Facts.{to_z-of_z}
-use Rattle.systems.specs.Laws.Limits.{same_beyond}
+use Rattle.systems.proofs.Laws.Limits.{same_beyond}
 use Rattle.arith.specs.Laws.Machine.{v_arg, v_add, v_mul, need_add, need_mul}
 use Rattle.systems.proofs.outside_box.Statement.{statement}
 use Rattle.systems.proofs.outside_box.Tie as tie

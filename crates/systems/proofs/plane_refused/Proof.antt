@@ -9,7 +9,7 @@ use mir.Facts.{to_z-of_z}
 use Rattle.arith.specs.Laws.Machine.{v_in}
 use Rattle.systems.specs.Zones.{beyond, Sized}
 use Rattle.systems.specs.declared.Zone.{Zone}
-use Rattle.systems.specs.Laws.Limits.{same_box, plane_limits}
+use Rattle.systems.proofs.Laws.Limits.{same_box, plane_limits}
 use Rattle.systems.proofs.plane_refused.Statement.{statement}
 use Rattle.systems.proofs.plane_refused.Tie as tie
 

@@ -6,7 +6,7 @@ use borrow.Author.Rules.{rules}
 use Rattle.rules.specs.RingAnswers.{area_answer}
 use Rattle.rings.specs.Answers.{whole_paper}
 use Rattle.terminal.specs.Lent.{whole_number}
-use Rattle.terminal.specs.Laws.Lent.{on_refusal, on_answer}
+use Rattle.terminal.proofs.Laws.Lent.{on_refusal, on_answer}
 use Rattle.terminal.proofs.misgwalor_area2.Statement.{statement}
 use Rattle.terminal.proofs.misgwalor_area2.Tie as tie
 

@@ -5,13 +5,13 @@ use lib.IntN.{ℤ}
 use borrow.Author.Rules.{rules}
 use Rattle.rules.specs.Refusals.{Answer}
 use Rattle.rules.specs.Conversion.{held, RightConversion}
-use Rattle.rules.specs.Laws.Clauses.{both_shown}
-use Rattle.rules.specs.Laws.Legs.{conversion_right}
+use Rattle.rules.proofs.Laws.Clauses.{both_shown}
+use Rattle.rules.proofs.Laws.Legs.{conversion_right}
 use Rattle.rings.specs.Answers.{refusal_of}
 use Rattle.projection.specs.Laws.Right.{right}
 use Rattle.conversion.specs.Codes.{verdict_paper}
 use Rattle.conversion.specs.Ring.{worked_conversion}
-use Rattle.terminal.specs.Laws.Lent.{verdict_number}
+use Rattle.terminal.proofs.Laws.Lent.{verdict_number}
 use Rattle.terminal.proofs.misgwalor_convert_ring.Statement.{statement}
 use Rattle.terminal.proofs.misgwalor_convert_ring.Tie as tie
 

@@ -5,13 +5,13 @@ use mir.Facts.{to_z-of_z}
 use borrow.Author.Rules.{rules}
 use Rattle.rules.specs.Refusals.{Answer}
 use Rattle.rules.specs.Points.{Point, RightForward}
-use Rattle.rules.specs.Laws.Clauses.{both_shown}
+use Rattle.rules.proofs.Laws.Clauses.{both_shown}
 use Rattle.rings.specs.Answers.{refusal_of}
 use Rattle.projection.specs.Answers.{forward_paper}
 use Rattle.projection.specs.Worked.{worked_forward}
 use Rattle.projection.specs.Laws.Right.{right}
 use Rattle.terminal.specs.Lent.{lent, point_numbers}
-use Rattle.terminal.specs.Laws.Lent.{on_refusal, on_answer, four_same}
+use Rattle.terminal.proofs.Laws.Lent.{on_refusal, on_answer, four_same}
 use Rattle.terminal.proofs.misgwalor_forward.Statement.{statement}
 use Rattle.terminal.proofs.misgwalor_forward.Tie as tie
 

@@ -5,13 +5,13 @@ use mir.Facts.{to_z-of_z}
 use borrow.Author.Rules.{rules}
 use Rattle.rules.specs.Refusals.{Answer}
 use Rattle.rules.specs.Points.{Ticks, RightInverse}
-use Rattle.rules.specs.Laws.Clauses.{both_shown}
+use Rattle.rules.proofs.Laws.Clauses.{both_shown}
 use Rattle.rings.specs.Answers.{refusal_of}
 use Rattle.projection.specs.Answers.{inverse_paper}
 use Rattle.projection.specs.Inverse.{worked_inverse}
 use Rattle.projection.specs.Laws.Right.{right}
 use Rattle.terminal.specs.Lent.{lent, tick_numbers}
-use Rattle.terminal.specs.Laws.Lent.{on_refusal, on_answer, two_same}
+use Rattle.terminal.proofs.Laws.Lent.{on_refusal, on_answer, two_same}
 use Rattle.terminal.proofs.misgwalor_inverse.Statement.{statement}
 use Rattle.terminal.proofs.misgwalor_inverse.Tie as tie
 

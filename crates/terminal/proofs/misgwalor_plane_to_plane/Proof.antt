@@ -6,14 +6,14 @@ use borrow.Author.Rules.{rules}
 use Rattle.rules.specs.Refusals.{Answer}
 use Rattle.rules.specs.Rings.{Corner}
 use Rattle.rules.specs.Points.{RightPlane}
-use Rattle.rules.specs.Laws.Clauses.{both_shown}
-use Rattle.rules.specs.Laws.Legs.{plane_right}
+use Rattle.rules.proofs.Laws.Clauses.{both_shown}
+use Rattle.rules.proofs.Laws.Legs.{plane_right}
 use Rattle.rings.specs.Answers.{refusal_of}
 use Rattle.projection.specs.Answers.{plane_paper}
 use Rattle.conversion.specs.Plane.{worked_plane}
 use Rattle.projection.specs.Laws.Right.{right}
 use Rattle.terminal.specs.Lent.{lent, plane_numbers}
-use Rattle.terminal.specs.Laws.Lent.{on_refusal, on_answer, two_same}
+use Rattle.terminal.proofs.Laws.Lent.{on_refusal, on_answer, two_same}
 use Rattle.terminal.proofs.misgwalor_plane_to_plane.Statement.{statement}
 use Rattle.terminal.proofs.misgwalor_plane_to_plane.Tie as tie
 

@@ -7,7 +7,7 @@ use Rattle.rules.specs.RingAnswers.{turning_answer}
 use Rattle.rings.specs.Answers.{whole_paper}
 use Rattle.rings.specs.Corners.{corner}
 use Rattle.terminal.specs.Lent.{whole_number}
-use Rattle.terminal.specs.Laws.Lent.{on_refusal, on_answer}
+use Rattle.terminal.proofs.Laws.Lent.{on_refusal, on_answer}
 use Rattle.terminal.proofs.misgwalor_turning_number.Statement.{statement}
 use Rattle.terminal.proofs.misgwalor_turning_number.Tie as tie
 

@@ -5,8 +5,8 @@ use Rattle.rules.specs.Refusals.{CrossedPair, crossed_at}
 use Rattle.rules.specs.FieldAnswers.{accept_answer}
 use Rattle.fields.specs.Answers.{field_paper}
 use Rattle.fields.specs.declared.FieldAnswer.{FieldAnswer}
-use Rattle.terminal_fields.specs.Laws.Nine.{Small, accept_small, small_is}
-use Rattle.terminal_fields.specs.Laws.Handed.{number_same, place_same, four_same}
+use Rattle.terminal_fields.proofs.Laws.Nine.{Small, accept_small, small_is}
+use Rattle.terminal_fields.proofs.Laws.Handed.{number_same, place_same, four_same}
 use borrow.Author.Rules.{rules}
 use Rattle.terminal_fields.proofs.accept.Statement.{statement}
 use Rattle.terminal_fields.proofs.accept.Tie as tie

@@ -8,8 +8,8 @@ use Rattle.ring_corners.specs.Corners.{corner}
 use Rattle.fields.specs.Answers.{field_nozzle_paper}
 use Rattle.fields.specs.declared.FieldNozzle.{FieldNozzle}
 use Rattle.terminal_fields.specs.Lent.{nozzle_number}
-use Rattle.terminal_fields.specs.Laws.Nine.{Small, nozzle_small, small_is}
-use Rattle.terminal_fields.specs.Laws.Handed.{number_same, place_same, answer_same, four_same}
+use Rattle.terminal_fields.proofs.Laws.Nine.{Small, nozzle_small, small_is}
+use Rattle.terminal_fields.proofs.Laws.Handed.{number_same, place_same, answer_same, four_same}
 use borrow.Author.Rules.{rules}
 use Rattle.terminal_fields.proofs.nozzle.Statement.{statement}
 use Rattle.terminal_fields.proofs.nozzle.Tie as tie

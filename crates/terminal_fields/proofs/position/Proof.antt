@@ -6,7 +6,7 @@ use Rattle.ring_corners.specs.Corners.{corner}
 use Rattle.fields.specs.Answers.{field_nozzle_paper}
 use Rattle.fields.specs.declared.FieldNozzle.{FieldNozzle}
 use Rattle.terminal_fields.specs.Lent.{nozzle_number}
-use Rattle.terminal_fields.specs.Laws.Handed.{number_same, answer_same}
+use Rattle.terminal_fields.proofs.Laws.Handed.{number_same, answer_same}
 use borrow.Author.Rules.{rules}
 use Rattle.terminal_fields.proofs.position.Statement.{statement}
 use Rattle.terminal_fields.proofs.position.Tie as tie

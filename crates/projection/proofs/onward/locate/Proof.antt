@@ -13,7 +13,7 @@ use Rattle.fixed.specs.Laws.Turned.{below_zero}
 use Rattle.fixed_forward.specs.Ellipsoids.{which}
 use Rattle.fixed_forward.specs.Points.{IsMercator}
 use Rattle.fixed_bands.specs.Bands.{Latitude}
-use Rattle.projection_worked.specs.Laws.Taken.{latitude_taken}
+use Rattle.projection_worked.proofs.Laws.Taken.{latitude_taken}
 use Rattle.projection.proofs.Locating.{located}
 use borrow.Author.Rules.{rules}
 use Rattle.projection.proofs.onward.locate.Statement.{statement}

@@ -17,7 +17,7 @@ use Rattle.fixed.specs.Nearness.{turned}
 use Rattle.fixed_forward.specs.Ellipsoids.{which}
 use Rattle.systems.specs.declared.Zone.{Zone}
 use Rattle.projection_worked.specs.Worked.{z_of, plane_pair, scaled_part}
-use Rattle.projection_worked.specs.Laws.Taken.{latitude_taken, plane_tame}
+use Rattle.projection_worked.proofs.Laws.Taken.{latitude_taken, plane_tame}
 use Rattle.projection_worked.specs.Bounds.{Tame}
 use Rattle.projection.specs.Located.{LocatedAt}
 use Rattle.projection.specs.Laws.Stood.{X_stands, Y_stands}

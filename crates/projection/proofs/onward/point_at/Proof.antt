@@ -19,8 +19,8 @@ use Rattle.fixed_bands.specs.Bands.{Latitude}
 use Rattle.systems.specs.Zones.{Stands}
 use Rattle.systems.specs.declared.Zone.{Zone}
 use Rattle.projection_worked.specs.Worked.{z_of, plane_pair, slope_pair, scaled_part, scale_from, convergence_from, worked_X, worked_Y, worked_scale, worked_convergence}
-use Rattle.projection_worked.specs.Laws.Taken.{latitude_taken, plane_tame, slope_tame}
-use Rattle.projection_worked.specs.Laws.Derivative.{point_sloped}
+use Rattle.projection_worked.proofs.Laws.Taken.{latitude_taken, plane_tame, slope_tame}
+use Rattle.projection_worked.proofs.Laws.Derivative.{point_sloped}
 use Rattle.projection_worked.specs.Bounds.{Tame, Sloped}
 use Rattle.projection.specs.Located.{LocatedAt}
 use Rattle.projection.specs.Laws.Stood.{X_stands, Y_stands, scale_stands, convergence_stands}

@@ -5,7 +5,7 @@ use Rattle.fixed.specs.Worked.{mul60}
 use Rattle.fixed_scale.specs.Scale.{meridian60, spread60, sphere_scale60}
 use Rattle.fixed_scale.specs.Length.{length60}
 use Rattle.fixed_units.specs.Worked.{scale_units}
-use Rattle.projection_worked.specs.Laws.Undoing.{word}
+use Rattle.projection_worked.proofs.Laws.Undoing.{word}
 use borrow.Author.Rules.{rules}
 use Rattle.projection.proofs.onward.scale_of.Statement.{statement}
 use Rattle.projection.proofs.onward.scale_of.Tie as tie

@@ -11,7 +11,7 @@ use mir.Facts.{to_z-of_z}
 use Rattle.arith.specs.Laws.Within.{by_abs, w_fits}
 use Rattle.arith.specs.Machine.{Is}
 use Rattle.arith.specs.Laws.Machine.{v_is, v_num, v_sub, need_sub, lt_yes, lt_no}
-use Rattle.projection_worked.specs.Laws.Sides.{minus_size, west_side, east_side, nonneg, minus_nonneg}
+use Rattle.projection_worked.proofs.Laws.Sides.{minus_size, west_side, east_side, nonneg, minus_nonneg}
 use Rattle.projection.proofs.onward.side_of.Statement.{statement}
 use Rattle.projection.proofs.onward.side_of.Tie as tie
 use Rattle.projection.proofs.onward.side_of.Reads as reads

@@ -2,7 +2,7 @@ use lib.IntN.{neg_ℤ, +ℤ_idl}
 use mir.Syntax.{w64}
 use Rattle.arith.specs.Laws.Machine.{v_arg, v_num, v_sub, need_sub}
 use Rattle.fixed.specs.Nearness.{turned}
-use Rattle.projection_worked.specs.Laws.Undoing.{turned_by}
+use Rattle.projection_worked.proofs.Laws.Undoing.{turned_by}
 use mathlib.Core.Path.{◌∙◌}
 use Rattle.projection.proofs.onward.sided.Statement.{statement}
 use Rattle.projection.proofs.onward.sided.Tie as tie

@@ -12,7 +12,7 @@ use Rattle.metres.specs.Millimetres.{in_millimetres}
 use Rattle.systems.specs.Zones.{Sized}
 use Rattle.systems.specs.declared.Zone.{Zone}
 use Rattle.projection_worked.specs.Worked.{scaled_part}
-use Rattle.projection_worked.specs.Laws.Millimetres.{scale_of, millimetres_size}
+use Rattle.projection_worked.proofs.Laws.Millimetres.{scale_of, millimetres_size}
 use Rattle.projection.proofs.Parts.{millionths_given, millionths_positive}
 use Rattle.projection.proofs.steps.after_scale.Statement.{statement}
 use Rattle.projection.proofs.steps.after_scale.Tie as tie

@@ -8,10 +8,10 @@ use lib.IntN.{nat_abs}
 use Rattle.rules.specs.Polynomial.{double_unit}
 use Rattle.double.specs.declared.Pair.{Pair}
 use Rattle.double.specs.Value.{value}
-use Rattle.double.specs.Laws.Operations.{double_unit_pos}
+use Rattle.double.proofs.Laws.Operations.{double_unit_pos}
 use Rattle.fixed.specs.Worked.{mul60, quot60}
 use Rattle.projection_worked.specs.Worked.{first41, second41, grain, first60, slope60}
-use Rattle.projection_worked.specs.Laws.SlopeParts.{Parted, parted, first_high_60, slope_high}
+use Rattle.projection_worked.proofs.Laws.SlopeParts.{Parted, parted, first_high_60, slope_high}
 use Rattle.projection.proofs.steps.slope_parts.Statement.{statement}
 use Rattle.projection.proofs.steps.slope_parts.Tie as tie
 use Rattle.projection.proofs.steps.slope_parts.Reads as reads

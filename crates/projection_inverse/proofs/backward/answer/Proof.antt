@@ -20,8 +20,8 @@ use Rattle.fixed.specs.Nearness.{turned}
 use Rattle.fixed_inverse.specs.Worked.{latitude_ticks, difference_ticks}
 use Rattle.projection_worked.specs.Worked.{below_nought}
 use Rattle.projection_worked.specs.Inverse.{latitude_from, difference_from, ticks_from}
-use Rattle.projection_worked.specs.Laws.InverseTicks.{turned_abs}
-use Rattle.projection_worked.specs.Laws.Undoing.{word}
+use Rattle.projection_worked.proofs.Laws.InverseTicks.{turned_abs}
+use Rattle.projection_worked.proofs.Laws.Undoing.{word}
 use borrow.Author.Rules.{rules}
 use Rattle.projection_inverse.proofs.backward.answer.Statement.{statement}
 use Rattle.projection_inverse.proofs.backward.answer.Tie as tie

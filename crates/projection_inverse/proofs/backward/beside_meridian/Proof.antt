@@ -4,7 +4,7 @@ use lib.IntN.{◌+ℤ◌}
 use mir.Syntax.{w64}
 use Rattle.arith.specs.Laws.Machine.{v_arg, v_add, v_sub, need_add, need_sub}
 use Rattle.fixed.specs.Nearness.{turned}
-use Rattle.projection_worked.specs.Laws.Undoing.{turned_by}
+use Rattle.projection_worked.proofs.Laws.Undoing.{turned_by}
 use Rattle.projection_inverse.proofs.backward.beside_meridian.Statement.{statement}
 use Rattle.projection_inverse.proofs.backward.beside_meridian.Tie as tie
 

@@ -6,7 +6,7 @@ use mir.Syntax.{w64}
 use Rattle.arith.specs.Laws.Machine.{v_sub, need_sub}
 use Rattle.systems.specs.Zones.{ellipsoid_of}
 use Rattle.projection_worked.specs.Inverse.{centre30, centred30}
-use Rattle.projection_worked.specs.Laws.Undoing.{word}
+use Rattle.projection_worked.proofs.Laws.Undoing.{word}
 use borrow.Author.Rules.{rules}
 use Rattle.projection_inverse.proofs.backward.centred.Statement.{statement}
 use Rattle.projection_inverse.proofs.backward.centred.Tie as tie

@@ -16,8 +16,8 @@ use Rattle.systems.specs.Zones.{ellipsoid_of}
 use Rattle.systems.specs.declared.Zone.{Zone}
 use Rattle.projection_worked.specs.Inverse.{Boxed, mercator_pair, ticks_from}
 use Rattle.projection_worked.specs.Bounds.{Placed}
-use Rattle.projection_worked.specs.Laws.InverseRange.{box_placed}
-use Rattle.projection_worked.specs.Laws.Sides.{nonneg}
+use Rattle.projection_worked.proofs.Laws.InverseRange.{box_placed}
+use Rattle.projection_worked.proofs.Laws.Sides.{nonneg}
 use Rattle.projection_inverse.proofs.Standing.{row_pair, ticks_stand}
 use Rattle.projection_inverse.proofs.backward.from_plane.Statement.{statement}
 use Rattle.projection_inverse.proofs.backward.from_plane.Tie as tie

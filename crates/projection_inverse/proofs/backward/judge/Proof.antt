@@ -5,7 +5,7 @@ use mir.Facts.{to_z-of_z}
 use Rattle.rules.specs.Refusals.{Answer, answered}
 use Rattle.rules.specs.Systems.{System}
 use Rattle.rules.specs.Points.{Ticks, latitude_bad, longitude_bad}
-use Rattle.rules.specs.Laws.Checks.{judged_2, judged_3, judged_passes}
+use Rattle.rules.proofs.Laws.Checks.{judged_2, judged_3, judged_passes}
 use Rattle.systems.specs.Zones.{Stands}
 use borrow.Author.Rules.{rules}
 use Rattle.projection_inverse.proofs.backward.judge.Statement.{statement}

@@ -14,9 +14,9 @@ use Rattle.double.specs.Exact.{doubles}
 use Rattle.metres.specs.Metres.{arguments_of}
 use Rattle.systems.specs.Zones.{ellipsoid_of}
 use Rattle.projection_worked.specs.Inverse.{undone30, centred30, mercator_pair}
-use Rattle.projection_worked.specs.Laws.InverseLengths.{lengths}
-use Rattle.projection_worked.specs.Laws.InverseUndone.{centred_small}
-use Rattle.projection_worked.specs.Laws.Undoing.{word}
+use Rattle.projection_worked.proofs.Laws.InverseLengths.{lengths}
+use Rattle.projection_worked.proofs.Laws.InverseUndone.{centred_small}
+use Rattle.projection_worked.proofs.Laws.Undoing.{word}
 use borrow.Author.Rules.{rules, sfits_of}
 use Rattle.projection_inverse.proofs.backward.mercator_pair.Statement.{statement}
 use Rattle.projection_inverse.proofs.backward.mercator_pair.Tie as tie

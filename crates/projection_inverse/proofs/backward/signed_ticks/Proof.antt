@@ -4,7 +4,7 @@ use lib.IntN.{pos, neg_ℤ, +ℤ_idl}
 use mir.Syntax.{w64}
 use Rattle.arith.specs.Laws.Machine.{v_num, v_sub, need_sub}
 use Rattle.fixed.specs.Nearness.{turned}
-use Rattle.projection_worked.specs.Laws.Undoing.{word, turned_by}
+use Rattle.projection_worked.proofs.Laws.Undoing.{word, turned_by}
 use borrow.Author.Rules.{rules}
 use Rattle.projection_inverse.proofs.backward.signed_ticks.Statement.{statement}
 use Rattle.projection_inverse.proofs.backward.signed_ticks.Tie as tie

@@ -8,13 +8,13 @@ use Rattle.rules.specs.Systems.{Ellipsoid}
 use Rattle.rules.specs.Polynomial.{double_unit}
 use Rattle.double.specs.Value.{value}
 use Rattle.double.specs.declared.Pair.{Pair}
-use Rattle.double.specs.Laws.Operations.{double_unit_pos}
+use Rattle.double.proofs.Laws.Operations.{double_unit_pos}
 use Rattle.metres.specs.Millimetres.{truncated}
 use Rattle.systems.specs.Zones.{ellipsoid_of}
 use Rattle.fixed_inverse.specs.Worked.{ellipsoid, latitude_ticks, difference_ticks}
 use Rattle.fixed_inverse.specs.Laws.Radius.{x_low, x_high, y_high}
-use Rattle.projection_worked.specs.Laws.InverseSizes.{latitude_small, difference_small}
-use Rattle.projection_worked.specs.Laws.Undoing.{same_ellipsoid}
+use Rattle.projection_worked.proofs.Laws.InverseSizes.{latitude_small, difference_small}
+use Rattle.projection_worked.proofs.Laws.Undoing.{same_ellipsoid}
 use Rattle.projection_inverse.proofs.backward.sizes.Statement.{statement}
 use Rattle.projection_inverse.proofs.backward.sizes.Tie as tie
 

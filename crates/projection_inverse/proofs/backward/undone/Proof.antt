@@ -3,7 +3,7 @@ use Prim.Native.Nat.{ℕ, ◌+◌, ◌*◌, ◌%◌, ◌/◌, ◌^◌, ◌≤◌
 use native.Mathlib.Omega.{arith}
 use Rattle.projection_worked.specs.Inverse.{undone30}
 use Rattle.arith.specs.Laws.Floor.{divided}
-use Rattle.projection_worked.specs.Laws.Undoing.{whole_small, rest_small, part_small}
+use Rattle.projection_worked.proofs.Laws.Undoing.{whole_small, rest_small, part_small}
 use borrow.Author.Rules.{rules}
 use Rattle.projection_inverse.proofs.backward.undone.Statement.{statement}
 use Rattle.projection_inverse.proofs.backward.undone.Tie as tie

@@ -5,11 +5,11 @@ use native.Mathlib.Omega.{arith}
 use lib.ListN.{length}
 use Rattle.rules.specs.Refusals.{answered, crossed_at}
 use Rattle.rules.specs.Rings.{First}
-use Rattle.rules.specs.Laws.Looked.{pair_of}
-use Rattle.rules.specs.Laws.Pairs.{crossed_some}
+use Rattle.rules.proofs.Laws.Looked.{pair_of}
+use Rattle.rules.proofs.Laws.Pairs.{crossed_some}
 use Rattle.ring_corners.specs.Corners.{pairs}
 use Rattle.ring_corners.specs.Laws.Flat.{first_in, half}
-use Rattle.rings.specs.Laws.Crossed.{pair_found, hit_answer, clean_answer}
+use Rattle.rings.proofs.Laws.Crossed.{pair_found, hit_answer, clean_answer}
 use Rattle.rings.proofs.crossed.first_pair.Statement.{statement}
 use Rattle.rings.proofs.crossed.first_pair.Tie as tie
 

@@ -3,7 +3,7 @@ use mathlib.Core.Path.{sym}
 use Prim.Native.Nat.{ℕ, ◌*◌, ◌-◌, ◌≤◌}
 use native.Mathlib.Nat.{mul-le-mul}
 use native.Mathlib.Omega.{arith}
-use Rattle.rules.specs.Laws.Looked.{half}
+use Rattle.rules.proofs.Laws.Looked.{half}
 use borrow.Author.Rules.{rules}
 use Rattle.rings.proofs.looked.pairs_of.Statement.{statement}
 use Rattle.rings.proofs.looked.pairs_of.Tie as tie

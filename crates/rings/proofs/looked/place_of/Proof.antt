@@ -4,7 +4,7 @@ use Prim.Native.Nat.{ℕ, ◌+◌, ◌-◌, ◌≤◌}
 use native.Mathlib.Omega.{arith}
 use lib.ListN.{length}
 use Rattle.rules.specs.Rings.{edge_pairs}
-use Rattle.rules.specs.Laws.Looked.{grows, few, place_at}
+use Rattle.rules.proofs.Laws.Looked.{grows, few, place_at}
 use borrow.Author.Rules.{rules}
 use Rattle.rings.proofs.looked.place_of.Statement.{statement}
 use Rattle.rings.proofs.looked.place_of.Tie as tie

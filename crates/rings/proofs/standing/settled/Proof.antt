@@ -2,7 +2,7 @@
 use mathlib.Core.Path.{sym, ap}
 use Rattle.arith.specs.Laws.Machine.{v_fit, v_num, lt_yes, lt_no}
 use Rattle.rules.specs.Refusals.{answered}
-use Rattle.rings.specs.Laws.Standing.{open_above, open_below, shut_at_zero}
+use Rattle.rings.proofs.Laws.Standing.{open_above, open_below, shut_at_zero}
 use Rattle.rings.proofs.standing.settled.Statement.{statement}
 use Rattle.rings.proofs.standing.settled.Tie as tie
 
