@@ -18,7 +18,7 @@ use Rattle.fixed_forward.specs.Mercator.{sphere_at, mercator_at}
 use Rattle.fixed_units.specs.Scale.{scale_band}
 use Rattle.fixed_units.specs.Convergence.{convergence_band}
 use Rattle.projection_worked.specs.Worked.{slope_pair, below_nought, millionths_of, scale_from, convergence_from, worked_X, worked_Y, worked_scale, worked_convergence, worked_point, worked_forward}
-use Rattle.projection_worked.specs.Laws.Forward.{X_near, Y_near}
+use Rattle.projection_worked.proofs.Laws.Forward.{X_near, Y_near}
 use Rattle.projection_worked.proofs.Laws.Derivative.{first_fixed, slope_fixed, slope_sided, other}
 use Rattle.projection_worked.proofs.Laws.Taken.{latitude_taken}
 use Rattle.projection_worked.proofs.Laws.InverseBox.{Millionths, system_millionths, system_narrow}

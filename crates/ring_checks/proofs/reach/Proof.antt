@@ -3,7 +3,7 @@ use mathlib.Core.Path.{sym}
 use mir.Syntax.{w64}
 use Rattle.arith.specs.Laws.Machine.{v_fit, v_arg, v_num, v_sub, need_sub, lt_yes, lt_no}
 use Rattle.ring_corners.specs.Laws.Signed.{v_minus}
-use Rattle.ring_checks.specs.Laws.Axis.{reach_inside, reach_wide, reach_fine}
+use Rattle.ring_checks.proofs.Laws.Axis.{reach_inside, reach_wide, reach_fine}
 use Rattle.ring_checks.proofs.Laws.Axis.{reach_low, reach_high}
 use Rattle.ring_checks.proofs.reach.Statement.{statement}
 use Rattle.ring_checks.proofs.reach.Tie as tie

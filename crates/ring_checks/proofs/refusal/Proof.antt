@@ -1,7 +1,7 @@
 -- 6, 7 and 8 in their order. Assumes nothing.
 use mathlib.Core.Path.{sym, ◌∙◌}
 use mathlib.Core.Logic.{inl, inr}
-use Rattle.ring_checks.specs.Laws.Accept.{count_refused, numbers_refuse, some}
+use Rattle.ring_checks.proofs.Laws.Accept.{count_refused, numbers_refuse, some}
 use Rattle.ring_checks.proofs.Laws.Accept.{odd_refused}
 use Rattle.ring_checks.proofs.refusal.Statement.{statement}
 use Rattle.ring_checks.proofs.refusal.Tie as tie

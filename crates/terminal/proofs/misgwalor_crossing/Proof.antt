@@ -7,7 +7,7 @@ use Rattle.rules.specs.Refusals.{CrossedPair, answered, crossed_at}
 use Rattle.rules.specs.RingAnswers.{crossing_answer}
 use Rattle.rings.specs.Answers.{crossing_paper}
 use Rattle.terminal.proofs.Laws.Lent.{on_crossing, one_same, two_same}
-use Rattle.terminal.specs.Laws.Edges.{crossing_nine}
+use Rattle.terminal.proofs.Laws.Edges.{crossing_nine}
 use Rattle.terminal.proofs.Laws.Edges.{NineNumbers, clean_small, small_is}
 use Rattle.terminal.proofs.misgwalor_crossing.Statement.{statement}
 use Rattle.terminal.proofs.misgwalor_crossing.Tie as tie

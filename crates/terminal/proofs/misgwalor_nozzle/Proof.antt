@@ -10,7 +10,7 @@ use Rattle.rings.specs.Corners.{corner}
 use Rattle.rings.specs.declared.NozzleAnswer.{NozzleAnswer}
 use Rattle.terminal.specs.Lent.{lent, edges_lent, pairs_lent, nozzle_number}
 use Rattle.terminal.proofs.Laws.Lent.{on_nozzle, one_same, two_same}
-use Rattle.terminal.specs.Laws.Edges.{nozzle_nine}
+use Rattle.terminal.proofs.Laws.Edges.{nozzle_nine}
 use Rattle.terminal.proofs.Laws.Edges.{NineNumbers, small_is}
 use Rattle.terminal.proofs.misgwalor_nozzle.Statement.{statement}
 use Rattle.terminal.proofs.misgwalor_nozzle.Tie as tie

@@ -5,7 +5,7 @@ use native.Mathlib.Omega.{arith}
 use lib.ListN.{length}
 use Rattle.ring_corners.specs.Corners.{pairs}
 use Rattle.ring_corners.specs.Laws.Flat.{first_in, half}
-use Rattle.rings.specs.Laws.Crossed.{searched_hit, searched_miss}
+use Rattle.rings.proofs.Laws.Crossed.{searched_hit, searched_miss}
 use Rattle.rings.proofs.Laws.Crossed.{Searched, searched_start, searched_end}
 use Rattle.rings.proofs.crossed.search.Statement.{statement}
 use Rattle.rings.proofs.crossed.search.Tie as tie

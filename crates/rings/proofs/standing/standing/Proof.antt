@@ -16,7 +16,7 @@ use Rattle.ring_turning.specs.Touching.{touch_of}
 use Rattle.ring_corners.specs.Laws.Flat.{half, next_inside}
 use Rattle.ring_corners.specs.Laws.Signed.{raw, raw_is}
 use Rattle.ring_turning.specs.Laws.Turning.{run}
-use Rattle.rings.specs.Laws.Standing.{passing_step, hit}
+use Rattle.rings.proofs.Laws.Standing.{passing_step, hit}
 use Rattle.rings.proofs.Laws.Standing.{Passing, passing_start, passing_end, passing_fits}
 use Rattle.ring_turning.specs.declared.touching.Touch.TheVariants.{OnEdge, Adds}
 use borrow.Author.Rules.{rules}
