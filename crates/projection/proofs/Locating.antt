@@ -9,7 +9,7 @@ use Rattle.fixed.specs.Worked.{S60}
 use Rattle.fixed.specs.Laws.Turned.{below_zero}
 use Rattle.fixed_bands.specs.Bands.{Latitude}
 use Rattle.fixed_forward.specs.Points.{IsMercator, SphereSizes}
-use Rattle.fixed_forward.specs.Sizes.{north_size, east_size}
+use Rattle.fixed_forward.proofs.Laws.Sizes.{north_size, east_size}
 use Rattle.fixed_forward.specs.declared.Mercator.{Mercator}
 use Rattle.projection_worked.specs.Bounds.{limit30}
 use Rattle.projection.specs.Located.{LocatedAt}

@@ -6,7 +6,7 @@ use borrow.Author.Rules.{rules}
 use lib.ListN.{length, drop, get_or}
 use lib.Seq.{drop-length}
 use Rattle.fixed.specs.Worked.{S60, alt60}
-use Rattle.fixed.specs.Laws.Loops.{fall, fall_before, alt_turn}
+use Rattle.fixed.proofs.Laws.Loops.{fall, fall_before, alt_turn}
 use Rattle.fixed.proofs.alt60.Statement.{statement}
 use Rattle.fixed.proofs.alt60.Tie as tie
 

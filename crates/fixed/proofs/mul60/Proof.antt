@@ -2,7 +2,7 @@
 use mathlib.Core.Path.{refl}
 use native.Mathlib.Omega.{arith}
 use Rattle.fixed.specs.Worked.{mul60}
-use Rattle.fixed.specs.Laws.Words.{mul_fits, mul60_is}
+use Rattle.fixed.proofs.Laws.Words.{mul_fits, mul60_is}
 use Rattle.fixed.proofs.mul60.Statement.{statement}
 use Rattle.fixed.proofs.mul60.Tie as tie
 

@@ -1,6 +1,6 @@
 -- `fixed::odd_alt60` meets its contract. Assumes nothing.
 use Rattle.fixed.specs.Worked.{odd_alt60}
-use Rattle.fixed.specs.Laws.Loops.{mul_small}
+use Rattle.fixed.proofs.Laws.Loops.{mul_small}
 use borrow.Author.Rules.{rules}
 use Rattle.fixed.proofs.odd_alt60.Statement.{statement}
 use Rattle.fixed.proofs.odd_alt60.Tie as tie

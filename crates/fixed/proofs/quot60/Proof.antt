@@ -3,7 +3,7 @@ use mathlib.Core.Path.{refl}
 use native.Mathlib.Omega.{arith}
 use borrow.Author.Rules.{rules}
 use Rattle.fixed.specs.Worked.{quot60}
-use Rattle.fixed.specs.Laws.Words.{quot_fits, quot2_fits, quot60_is}
+use Rattle.fixed.proofs.Laws.Words.{quot_fits, quot2_fits, quot60_is}
 use Rattle.fixed.proofs.quot60.Statement.{statement}
 use Rattle.fixed.proofs.quot60.Tie as tie
 

@@ -6,7 +6,7 @@ use borrow.Author.Rules.{rules}
 use lib.ListN.{length, drop, get_or}
 use lib.Seq.{drop-length}
 use Rattle.fixed.specs.Worked.{S60, ser60}
-use Rattle.fixed.specs.Laws.Loops.{fall, fall_before, ser_turn, mul_half}
+use Rattle.fixed.proofs.Laws.Loops.{fall, fall_before, ser_turn, mul_half}
 use Rattle.fixed.proofs.ser60.Statement.{statement}
 use Rattle.fixed.proofs.ser60.Tie as tie
 

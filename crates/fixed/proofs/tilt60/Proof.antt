@@ -7,9 +7,9 @@ use lib.Dec.{ltb, lit<, lit≤}
 use borrow.Author.Tests.{lt-ltb, le-ltb}
 use Rattle.fixed.specs.Worked.{S60, mul60, quot60, Tan52, apart, tilt60, tilt_south}
 use Rattle.fixed.specs.Relations.{Mul60, Quot60}
-use Rattle.fixed.specs.Laws.Words.{QuotPre}
-use Rattle.fixed.specs.Laws.Products.{mul_low, mul_high}
-use Rattle.fixed.specs.Laws.Quotients.{quot_high}
+use Rattle.fixed.proofs.Laws.Words.{QuotPre}
+use Rattle.fixed.proofs.Laws.Products.{mul_low, mul_high}
+use Rattle.fixed.proofs.Laws.Quotients.{quot_high}
 use borrow.Author.Rules.{rules}
 use Rattle.fixed.proofs.tilt60.Statement.{statement}
 use Rattle.fixed.proofs.tilt60.Tie as tie

@@ -6,8 +6,8 @@ use borrow.Author.Rules.{rules}
 use Rattle.rules.specs.Systems.{Krasovsky}
 use Rattle.fixed.specs.Worked.{S60}
 use Rattle.fixed_bands.specs.Worked.{rising, shortfall_table, K60}
-use Rattle.fixed_bands.specs.Tests.{row_rising}
-use Rattle.fixed_bands.specs.Bands.{shortfall_asks, shortfall_below}
+use Rattle.fixed_bands.proofs.Laws.Tests.{row_rising}
+use Rattle.fixed_bands.proofs.Laws.Bands.{shortfall_asks, shortfall_below}
 use Rattle.fixed_bands.proofs.k60_krasovsky.Statement.{statement}
 use Rattle.fixed_bands.proofs.k60_krasovsky.Tie as tie
 

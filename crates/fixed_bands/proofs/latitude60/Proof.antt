@@ -5,8 +5,9 @@ use native.Mathlib.Omega.{arith}
 use borrow.Author.Rules.{rules}
 use Rattle.fixed_bands.specs.Worked.{latitude_sine, latitude_cosine}
 use Rattle.fixed_bands.specs.Tables.{latitude_sine_table, latitude_cosine_table}
-use Rattle.fixed_bands.specs.Tests.{row_rising, row_sinking}
-use Rattle.fixed_bands.specs.Bands.{latitude_sine_asks, latitude_cosine_asks, LatitudeSizes, latitude_sizes}
+use Rattle.fixed_bands.proofs.Laws.Tests.{row_rising, row_sinking}
+use Rattle.fixed_bands.specs.Bands.{LatitudeSizes}
+use Rattle.fixed_bands.proofs.Laws.Bands.{latitude_sine_asks, latitude_cosine_asks, latitude_sizes}
 use Rattle.fixed_bands.proofs.latitude60.Statement.{statement}
 use Rattle.fixed_bands.proofs.latitude60.Tie as tie
 

@@ -5,8 +5,9 @@ use native.Mathlib.Omega.{arith}
 use borrow.Author.Rules.{rules}
 use Rattle.fixed_bands.specs.Worked.{longitude_sine, longitude_cosine}
 use Rattle.fixed_bands.specs.Tables.{longitude_sine_table, longitude_cosine_table}
-use Rattle.fixed_bands.specs.Tests.{row_rising, row_sinking}
-use Rattle.fixed_bands.specs.Bands.{longitude_sine_asks, longitude_cosine_asks, LongitudeSizes, longitude_sizes}
+use Rattle.fixed_bands.proofs.Laws.Tests.{row_rising, row_sinking}
+use Rattle.fixed_bands.specs.Bands.{LongitudeSizes}
+use Rattle.fixed_bands.proofs.Laws.Bands.{longitude_sine_asks, longitude_cosine_asks, longitude_sizes}
 use Rattle.fixed_bands.proofs.longitude60.Statement.{statement}
 use Rattle.fixed_bands.proofs.longitude60.Tie as tie
 

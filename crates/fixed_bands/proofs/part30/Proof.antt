@@ -7,7 +7,7 @@ use native.Mathlib.Nat.{mul-le-mul, le_trans}
 use lib.Dec.{lit≤}
 use Rattle.fixed.specs.Worked.{S60, P30}
 use Rattle.fixed_bands.specs.Worked.{width, part30}
-use Rattle.fixed_bands.specs.Traces.{part30_is}
+use Rattle.fixed_bands.proofs.Laws.Traces.{part30_is}
 use Rattle.fixed_bands.proofs.part30.Statement.{statement}
 use Rattle.fixed_bands.proofs.part30.Tie as tie
 

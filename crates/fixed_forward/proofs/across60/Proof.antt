@@ -1,7 +1,7 @@
 -- `fixed_forward::across60` meets its contract. Assumes nothing.
 use native.Mathlib.Omega.{arith}
 use lib.Dec.{lit<}
-use Rattle.fixed.specs.Laws.Quotients.{quot_high}
+use Rattle.fixed.proofs.Laws.Quotients.{quot_high}
 use Rattle.fixed_forward.specs.Across.{across60}
 use borrow.Author.Rules.{rules}
 use Rattle.fixed_forward.proofs.across60.Statement.{statement}

@@ -2,7 +2,8 @@
 use mathlib.Core.Path.{◌≡◌, sym, subst₂}
 use Prim.Native.Nat.{◌+◌, ◌-◌, ◌/◌}
 use native.Mathlib.Omega.{arith}
-use Rattle.fixed_forward.specs.Sphere.{lifted60, numerator60, denominator60, HalvesSizes, halves_sizes, lifted_low}
+use Rattle.fixed_forward.specs.Sphere.{lifted60, numerator60, denominator60, HalvesSizes}
+use Rattle.fixed_forward.proofs.Laws.Sphere.{halves_sizes, lifted_low}
 use Rattle.fixed_forward.proofs.halves60.Statement.{statement}
 use Rattle.fixed_forward.proofs.halves60.Tie as tie
 

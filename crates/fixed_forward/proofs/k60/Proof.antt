@@ -6,7 +6,7 @@ use native.Mathlib.Omega.{arith}
 use borrow.Author.Rules.{rules}
 use Rattle.fixed.specs.Worked.{S60}
 use Rattle.fixed_bands.specs.Worked.{K60}
-use Rattle.fixed_bands.specs.Bands.{K_near}
+use Rattle.fixed_bands.proofs.Laws.Bands.{K_near}
 use Rattle.fixed_forward.specs.Ellipsoids.{which}
 use Rattle.fixed_forward.proofs.k60.Statement.{statement}
 use Rattle.fixed_forward.proofs.k60.Tie as tie

@@ -6,7 +6,7 @@ use Rattle.fixed_forward.specs.Ellipsoids.{which}
 use Rattle.fixed_forward.specs.Across.{across60}
 use Rattle.fixed_forward.specs.Along.{north30}
 use Rattle.fixed_forward.specs.Mercator.{east_of}
-use Rattle.fixed_forward.specs.Points.{across_is, north_is}
+use Rattle.fixed_forward.proofs.Laws.Points.{across_is, north_is}
 use borrow.Author.Rules.{rules, sfits_of}
 use Rattle.fixed_forward.proofs.mercator60.Statement.{statement}
 use Rattle.fixed_forward.proofs.mercator60.Tie as tie

@@ -9,7 +9,7 @@ use mir.Syntax.{w64}
 use mir.ValLaws.{to_z-of_z}
 use Rattle.fixed.specs.Worked.{odd_alt60}
 use Rattle.fixed.specs.Tables.{arctan_table}
-use Rattle.fixed.specs.Laws.Products.{mul_low, mul_high}
+use Rattle.fixed.proofs.Laws.Products.{mul_low, mul_high}
 use Rattle.fixed_forward.specs.Along.{north30}
 use borrow.Author.Rules.{rules, sfits_of}
 use Rattle.fixed_forward.proofs.north30.Statement.{statement}

@@ -3,7 +3,7 @@ use Prim.Native.Nat.{◌-◌, ◌≤◌}
 use native.Mathlib.Nat.{le_trans}
 use lib.Dec.{lit≤}
 use Rattle.fixed.specs.Worked.{mul60}
-use Rattle.fixed.specs.Laws.Products.{mul_low, mul_high}
+use Rattle.fixed.proofs.Laws.Products.{mul_low, mul_high}
 use borrow.Author.Rules.{rules}
 use Rattle.fixed_forward.proofs.sphere60.Statement.{statement}
 use Rattle.fixed_forward.proofs.sphere60.Tie as tie

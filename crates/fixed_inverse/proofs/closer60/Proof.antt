@@ -5,7 +5,7 @@ use native.Mathlib.Omega.{arith}
 use lib.Dec.{lit<}
 use Rattle.fixed.specs.Worked.{S60, quot60}
 use Rattle.fixed.specs.Relations.{Quot60}
-use Rattle.fixed.specs.Laws.Quotients.{quot_high}
+use Rattle.fixed.proofs.Laws.Quotients.{quot_high}
 use Rattle.fixed_inverse.specs.Worked.{closer60}
 use Rattle.fixed_inverse.specs.Laws.Roots.{w_high}
 use borrow.Author.Rules.{rules}

@@ -5,11 +5,12 @@ use native.Mathlib.Nat.{le_trans}
 use native.Mathlib.Omega.{arith}
 use lib.Dec.{lit≤}
 use Rattle.fixed.specs.Worked.{quot60, odd_alt60, odd_ser60, even_alt60}
-use Rattle.fixed.specs.Laws.Words.{QuotPre}
+use Rattle.fixed.proofs.Laws.Words.{QuotPre}
 use Rattle.fixed.specs.Tables.{small_sine_table, cosine_table}
 use Rattle.fixed_inverse.specs.Worked.{difference60}
 use Rattle.fixed_inverse.specs.Laws.Radius.{p_low, p_high, q_high}
-use Rattle.fixed_inverse.specs.Laws.Turns.{sinh_high, cosine_low, cosine_high, difference_high, sinh_size, cosine_size, tangent_size}
+use Rattle.fixed_inverse.specs.Laws.Turns.{sinh_high, cosine_low, cosine_high, difference_high}
+use Rattle.fixed_inverse.proofs.Laws.Turns.{sinh_size, cosine_size, tangent_size}
 use borrow.Author.Rules.{rules}
 use Rattle.fixed_inverse.proofs.difference60.Statement.{statement}
 use Rattle.fixed_inverse.proofs.difference60.Tie as tie

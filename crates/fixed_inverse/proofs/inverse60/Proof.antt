@@ -8,8 +8,10 @@ use lib.Dec.{lit≤}
 use Rattle.fixed.specs.Worked.{S60, odd_alt60, even_ser60}
 use Rattle.fixed.specs.Tables.{sine_table, small_cosine_table}
 use Rattle.fixed_inverse.specs.Worked.{ellipsoid, angle60, latitude_ticks, difference_ticks}
-use Rattle.fixed_inverse.specs.Laws.Radius.{x_low, x_high, y_high, p_low, p_high, q_high, x_size, y_size}
-use Rattle.fixed_inverse.specs.Laws.Turns.{sine_low, sine_high, cosh_high, sine_size, cosh_size}
+use Rattle.fixed_inverse.specs.Laws.Radius.{x_low, x_high, y_high, p_low, p_high, q_high}
+use Rattle.fixed_inverse.proofs.Laws.Radius.{x_size, y_size}
+use Rattle.fixed_inverse.specs.Laws.Turns.{sine_low, sine_high, cosh_high}
+use Rattle.fixed_inverse.proofs.Laws.Turns.{sine_size, cosh_size}
 use borrow.Author.Rules.{rules}
 use Rattle.fixed_inverse.proofs.inverse60.Statement.{statement}
 use Rattle.fixed_inverse.proofs.inverse60.Tie as tie

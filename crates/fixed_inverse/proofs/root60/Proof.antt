@@ -4,7 +4,8 @@ use Prim.Native.Nat.{ℕ, ◌+◌, ◌*◌, ◌-◌, ◌/◌, ◌^◌, ◌≤◌
 use native.Mathlib.Omega.{arith}
 use Rattle.fixed.specs.Worked.{S60, mul60}
 use Rattle.fixed_inverse.specs.Worked.{seed_from, seed_0, seed_1, seed_2, seed60, closer60, root60}
-use Rattle.fixed_inverse.specs.Laws.Roots.{w_low, w_high, root_least, root_most, seed_most, RootOf60, root60_is}
+use Rattle.fixed_inverse.specs.Laws.Roots.{w_low, w_high, root_least, root_most, seed_most, RootOf60}
+use Rattle.fixed_inverse.proofs.Laws.Roots.{root60_is}
 use borrow.Author.Rules.{rules}
 use Rattle.fixed_inverse.proofs.root60.Statement.{statement}
 use Rattle.fixed_inverse.proofs.root60.Tie as tie

@@ -10,8 +10,10 @@ use Rattle.fixed.specs.Relations.{Mul60}
 use Rattle.fixed.specs.Tables.{arctan_table}
 use Rattle.fixed_inverse.specs.Worked.{beside_52, about_52, sphere60, root60}
 use Rattle.fixed_inverse.specs.Laws.Turns.{sine_low, sine_high, cosh_high}
-use Rattle.fixed_inverse.specs.Laws.Roots.{w_low, w_high, root_least, root_most, square_low, square_high}
-use Rattle.fixed_inverse.specs.Laws.About52.{f_low, f_high, beside_size, tilt_size}
+use Rattle.fixed_inverse.specs.Laws.Roots.{w_low, w_high, root_least, root_most}
+use Rattle.fixed_inverse.proofs.Laws.Roots.{square_low, square_high}
+use Rattle.fixed_inverse.specs.Laws.About52.{f_low, f_high}
+use Rattle.fixed_inverse.proofs.Laws.About52.{beside_size, tilt_size}
 use borrow.Author.Rules.{rules}
 use Rattle.fixed_inverse.proofs.sphere60.Statement.{statement}
 use Rattle.fixed_inverse.proofs.sphere60.Tie as tie

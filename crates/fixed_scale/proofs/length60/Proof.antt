@@ -2,7 +2,7 @@
 use Prim.Native.Nat.{ℕ, ◌+◌, ◌*◌, ◌/◌, ◌≤◌}
 use native.Mathlib.Omega.{arith}
 use Rattle.fixed.specs.Worked.{S60}
-use Rattle.fixed.specs.Laws.Products.{mul_high}
+use Rattle.fixed.proofs.Laws.Products.{mul_high}
 use Rattle.fixed_scale.specs.Length.{length60}
 use borrow.Author.Rules.{rules}
 use Rattle.fixed_scale.proofs.length60.Statement.{statement}

@@ -3,7 +3,8 @@ use mathlib.Core.Path.{◌≡◌, sym, subst}
 use Prim.Native.Nat.{◌-◌, ◌≤◌}
 use native.Mathlib.Nat.{le_refl}
 use Rattle.fixed.specs.Worked.{S60}
-use Rattle.fixed_scale.specs.Root.{root60, root60_is}
+use Rattle.fixed_scale.specs.Root.{root60}
+use Rattle.fixed_scale.proofs.Laws.Root.{root60_is}
 use borrow.Author.Rules.{rules}
 use Rattle.fixed_scale.proofs.root60.Statement.{statement}
 use Rattle.fixed_scale.proofs.root60.Tie as tie

@@ -2,7 +2,7 @@
 use Prim.Native.Nat.{◌≤◌}
 use native.Mathlib.Nat.{le_trans}
 use lib.Dec.{lit≤}
-use Rattle.fixed.specs.Laws.Products.{mul_high}
+use Rattle.fixed.proofs.Laws.Products.{mul_high}
 use Rattle.fixed_scale.proofs.scale60.Statement.{statement}
 use Rattle.fixed_scale.proofs.scale60.Tie as tie
 

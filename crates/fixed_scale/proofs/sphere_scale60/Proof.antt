@@ -5,9 +5,9 @@ use native.Mathlib.Omega.{arith}
 use lib.Dec.{lit<, lit≤}
 use Rattle.fixed.specs.Worked.{S60}
 use Rattle.fixed.specs.Relations.{Mul60}
-use Rattle.fixed.specs.Laws.Words.{QuotPre}
-use Rattle.fixed.specs.Laws.Products.{mul_low, mul_high}
-use Rattle.fixed.specs.Laws.Quotients.{quot_high}
+use Rattle.fixed.proofs.Laws.Words.{QuotPre}
+use Rattle.fixed.proofs.Laws.Products.{mul_low, mul_high}
+use Rattle.fixed.proofs.Laws.Quotients.{quot_high}
 use Rattle.fixed_scale.specs.Scale.{meridian60, spread60, sphere_scale60}
 use Rattle.fixed_scale.proofs.sphere_scale60.Statement.{statement}
 use Rattle.fixed_scale.proofs.sphere_scale60.Tie as tie

@@ -5,8 +5,8 @@ use native.Mathlib.Omega.{arith}
 use lib.Dec.{lit<, lit≤}
 use Rattle.fixed.specs.Worked.{S60}
 use Rattle.fixed.specs.Relations.{Mul60, Quot60}
-use Rattle.fixed.specs.Laws.Loops.{mul_small}
-use Rattle.fixed.specs.Laws.Quotients.{quot_high}
+use Rattle.fixed.proofs.Laws.Loops.{mul_small}
+use Rattle.fixed.proofs.Laws.Quotients.{quot_high}
 use Rattle.fixed_scale.specs.Convergence.{sine_f60, turn60}
 use Rattle.fixed_scale.proofs.turn60.Statement.{statement}
 use Rattle.fixed_scale.proofs.turn60.Tie as tie

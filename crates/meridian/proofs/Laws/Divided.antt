@@ -10,12 +10,13 @@ use Rattle.arith.specs.Within.{Within}
 use Rattle.arith.specs.Laws.Within.{by_abs, w_num, w_add, w_sub, w_neg, w_mul}
 use Rattle.rules.specs.Scaled.{unit, root, sqrt, quotient}
 use Rattle.rules.specs.Laws.Root.{root_is}
-use Rattle.fixed.specs.Laws.Bounds.{w_same, w_up, w_rest}
-use Rattle.fixed.specs.Laws.Quotients.{ratio_div}
+use Rattle.fixed.proofs.Laws.Bounds.{w_same, w_up, w_rest}
+use Rattle.fixed.proofs.Laws.Quotients.{ratio_div}
 use Rattle.fixed_bands.specs.Worked.{width}
-use Rattle.fixed_bands.specs.Polynomials.{at, reach, multiple, times, minus, at_reach, at_multiple, at_times, at_minus}
+use Rattle.fixed_bands.specs.Polynomials.{at, reach, multiple, times, minus}
+use Rattle.fixed_bands.proofs.Laws.Polynomials.{at_reach, at_multiple, at_times, at_minus}
 use Rattle.fixed_bands.specs.Models.{Model, fine, Follows}
-use Rattle.fixed_bands.specs.Rows.{first_of, second_of}
+use Rattle.fixed_bands.proofs.Laws.Rows.{first_of, second_of}
 use Rattle.meridian.specs.Models.{least, room, positive, divided, quotient_line, quotient_model, root_model, rooted}
 
 -- ---- z·k is at most A, but for C times k, and k is at least l: z is at most A / l + C

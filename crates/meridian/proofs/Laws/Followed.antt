@@ -9,12 +9,15 @@ use Rattle.rules.specs.Systems.{◌/10^◌, Constants, a_coefficients}
 use Rattle.rules.specs.Scaled.{unit, one, product, quotient, sqrt, tan_52, arctan_about_52, Pair, polynomial, derivative}
 use Rattle.rules.specs.Projection.{K_of, Sphere, sphere, mercator, centred, two_millionths, N_of, sphere_scale}
 use Rattle.rules.proofs.Laws.Meridian.{flat_mercator, straight_slope}
-use Rattle.fixed.specs.Laws.Bounds.{w_div, w_same, w_up}
+use Rattle.fixed.proofs.Laws.Bounds.{w_div, w_same, w_up}
 use Rattle.fixed_bands.specs.Worked.{width}
-use Rattle.fixed_bands.specs.Polynomials.{at, minus, at_reach, at_minus}
-use Rattle.fixed_bands.specs.Models.{Model, fine, still, sum, product_model, Follows, follows_still, follows_difference, follows_product}
-use Rattle.fixed_bands.specs.Functions.{K_model, follows_K}
-use Rattle.fixed_bands.specs.Rows.{first_of, second_of}
+use Rattle.fixed_bands.specs.Polynomials.{at, minus}
+use Rattle.fixed_bands.proofs.Laws.Polynomials.{at_reach, at_minus}
+use Rattle.fixed_bands.specs.Models.{Model, fine, still, sum, product_model, Follows}
+use Rattle.fixed_bands.proofs.Laws.Models.{follows_still, follows_difference, follows_product}
+use Rattle.fixed_bands.specs.Functions.{K_model}
+use Rattle.fixed_bands.proofs.Laws.Functions.{follows_K}
+use Rattle.fixed_bands.proofs.Laws.Rows.{first_of, second_of}
 use Rattle.meridian.specs.Models.{gap, root_line, root_model, quotient_model, numerator_model, denominator_model, under_model, over_model, slant_model, z_model, slope_model, near_one, test_length, test_slant, test_tangent, test_scale, test_radius, test_root, test_sphere, test, test_from}
 use Rattle.meridian.proofs.Laws.Divided.{follows_quotient, follows_root}
 use Rattle.meridian.proofs.Laws.Steps.{follows_twice, follows_slope, follows_numerator, follows_denominator, follows_under, follows_over, follows_z}

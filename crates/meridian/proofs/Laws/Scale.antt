@@ -15,12 +15,13 @@ use Rattle.rules.specs.Projection as Unrounded
 use Rattle.rules.specs.Projection.{K_of, sphere, sphere_scale, two_millionths}
 use Rattle.rules.specs.Rounding.{Within}
 use Rattle.rules.proofs.Laws.Meridian.{straight_slope, scale_0}
-use Rattle.fixed.specs.Laws.Bounds.{w_div, w_same, w_up, w_pos}
-use Rattle.fixed.specs.Laws.Products.{product_rest}
+use Rattle.fixed.proofs.Laws.Bounds.{w_div, w_same, w_up, w_pos}
+use Rattle.fixed.proofs.Laws.Products.{product_rest}
 use Rattle.fixed_bands.specs.Worked.{width}
-use Rattle.fixed_bands.specs.Along.{north, latitude_sine_model, latitude_cosine_model, latitude_sine_follows, latitude_cosine_follows}
+use Rattle.fixed_bands.specs.Along.{north, latitude_sine_model, latitude_cosine_model}
+use Rattle.fixed_bands.proofs.Laws.Along.{latitude_sine_follows, latitude_cosine_follows}
 use Rattle.fixed_bands.specs.Bands.{Latitude}
-use Rattle.fixed_bands.specs.Tests.{every_at}
+use Rattle.fixed_bands.proofs.Laws.Tests.{every_at}
 use Rattle.meridian.specs.Models.{gap, test_band}
 use Rattle.meridian.proofs.Laws.Followed.{followed}
 use Rattle.meridian.proofs.Laws.Checks.{passes}

@@ -7,7 +7,8 @@ use Rattle.rules.specs.Scaled.{one, product, alternating, arctan, odd_fractions,
 use Rattle.rules.specs.Projection.{lifted, two_millionths}
 use Rattle.rules.proofs.Laws.Meridian.{zero_product, flat_times}
 use Rattle.fixed_bands.specs.Worked.{width}
-use Rattle.fixed_bands.specs.Models.{Model, still, sum, difference, product_model, Follows, follows_still, follows_sum, follows_difference, follows_product}
+use Rattle.fixed_bands.specs.Models.{Model, still, sum, difference, product_model, Follows}
+use Rattle.fixed_bands.proofs.Laws.Models.{follows_still, follows_sum, follows_difference, follows_product}
 use Rattle.meridian.specs.Models.{alternating_model, arctan_model, polynomial_model, lifted_model, numerator_model, denominator_model, under_model, over_model, z_model, slope_model}
 
 pub follows_twice : {h : ℕ} {a : ℤ} (m : Model) → Follows h a m → Follows h (pos 2 *ℤ a) (sum m m)

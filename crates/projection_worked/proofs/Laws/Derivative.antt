@@ -26,10 +26,12 @@ use Rattle.metres.specs.Metres.{argument_of, arguments_of}
 use Rattle.metres.specs.Laws.Into.{per_one, argument_small, arguments_inside}
 use Rattle.fixed.specs.Worked.{S60}
 use Rattle.fixed.specs.Nearness.{NearAt, Near60, Fixed, turned}
-use Rattle.fixed.specs.Laws.Turned.{below_zero, turned_within, turned_twice}
+use Rattle.fixed.specs.Laws.Turned.{below_zero}
+use Rattle.fixed.proofs.Laws.Turned.{turned_within, turned_twice}
 use Rattle.fixed_bands.specs.Bands.{Latitude}
-use Rattle.fixed_forward.specs.Mercator.{north_of, east_of, mercator_at, mercator_near}
-use Rattle.fixed_forward.specs.Sizes.{north_size, east_size, east_narrow}
+use Rattle.fixed_forward.specs.Mercator.{north_of, east_of, mercator_at}
+use Rattle.fixed_forward.proofs.Laws.Mercator.{mercator_near}
+use Rattle.fixed_forward.proofs.Laws.Sizes.{north_size, east_size, east_narrow}
 use Rattle.projection_worked.specs.Worked.{z_of, slope_pair, first60, slope60, below_nought}
 use Rattle.projection_worked.specs.Bounds.{limit30, Tame, Sloped}
 use Rattle.projection_worked.proofs.Laws.Argument.{argument_close}

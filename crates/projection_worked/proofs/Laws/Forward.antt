@@ -24,10 +24,12 @@ use Rattle.metres.specs.Millimetres.{in_millimetres}
 use Rattle.metres.specs.Laws.Answer.{millimetres_turn}
 use Rattle.metres.specs.Laws.Into.{arguments_inside}
 use Rattle.fixed.specs.Nearness.{NearAt, turned}
-use Rattle.fixed.specs.Laws.Turned.{below_zero, turned_within}
+use Rattle.fixed.specs.Laws.Turned.{below_zero}
+use Rattle.fixed.proofs.Laws.Turned.{turned_within}
 use Rattle.fixed_bands.specs.Bands.{Latitude}
-use Rattle.fixed_forward.specs.Mercator.{north_of, east_of, mercator_at, MercatorNear, mercator_near}
-use Rattle.fixed_forward.specs.Sizes.{north_size, east_size}
+use Rattle.fixed_forward.specs.Mercator.{north_of, east_of, mercator_at, MercatorNear}
+use Rattle.fixed_forward.proofs.Laws.Mercator.{mercator_near}
+use Rattle.fixed_forward.proofs.Laws.Sizes.{north_size, east_size}
 use Rattle.projection_worked.specs.Worked.{z_of, plane_pair, scaled_part}
 use Rattle.projection_worked.specs.Bounds.{limit30, Tame}
 use Rattle.projection_worked.proofs.Laws.Plane.{forward_first, forward_second}

@@ -15,7 +15,7 @@ use Rattle.rules.specs.Projection as Unrounded
 use Rattle.rules.specs.Points.{offset_X, offset_Y, plane_bad, inverse_checks, judged, NearInverse, RightInverse, RightInverseBy}
 use Rattle.double.specs.declared.Pair.{Pair}
 use Rattle.fixed.specs.Laws.Turned.{below_zero}
-use Rattle.fixed_inverse.specs.Laws.Inverse.{definition, latitude_band, difference_band}
+use Rattle.fixed_inverse.proofs.Laws.Inverse.{definition, latitude_band, difference_band}
 use Rattle.projection_worked.specs.Worked.{millionths_of, below_nought}
 use Rattle.projection_worked.specs.Inverse.{latitude_from, difference_from, worked_pair, worked_ticks, worked_inverse}
 use Rattle.projection_worked.specs.Laws.InverseUndone.{defined_length}

@@ -9,14 +9,15 @@ use Rattle.rules.specs.Scaled.{unit, quotient, hyperbolic_cosine}
 use Rattle.rules.specs.Systems.{Ellipsoid, constants}
 use Rattle.fixed.specs.Worked.{S60, mul60}
 use Rattle.fixed.specs.Nearness.{Near30, turned}
-use Rattle.fixed.specs.Laws.Words.{mul60_is}
-use Rattle.fixed.specs.Laws.Products.{mul_high}
+use Rattle.fixed.proofs.Laws.Words.{mul60_is}
+use Rattle.fixed.proofs.Laws.Products.{mul_high}
 use Rattle.fixed_inverse.specs.Worked.{TickC, nearest_even, ticks60, latitude_ticks, difference_ticks}
-use Rattle.fixed_inverse.specs.Laws.Radius.{x_low, x_high, y_high, x_angle, y_angle}
-use Rattle.fixed_inverse.specs.Laws.Turns.{near_sine, near_cosh, near_difference}
-use Rattle.fixed_inverse.specs.Laws.About52.{near_sphere}
-use Rattle.fixed_inverse.specs.Laws.Latitude.{near_latitude}
-use Rattle.fixed_inverse.specs.Laws.Ticks.{nearest_even_is}
+use Rattle.fixed_inverse.specs.Laws.Radius.{x_low, x_high, y_high}
+use Rattle.fixed_inverse.proofs.Laws.Radius.{x_angle, y_angle}
+use Rattle.fixed_inverse.proofs.Laws.Turns.{near_sine, near_cosh, near_difference}
+use Rattle.fixed_inverse.proofs.Laws.About52.{near_sphere}
+use Rattle.fixed_inverse.proofs.Laws.Latitude.{near_latitude}
+use Rattle.fixed_inverse.proofs.Laws.Ticks.{nearest_even_is}
 
 -- a length over 10^24 that x units of 2^-30 m stand for
 abbrev stands_for : ℕ → ℤ

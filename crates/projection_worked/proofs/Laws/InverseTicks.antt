@@ -24,8 +24,9 @@ use Rattle.double.proofs.Laws.Signs.{horner_mirrored}
 use Rattle.metres.specs.Metres.{arguments_of}
 use Rattle.metres.specs.Millimetres.{truncated}
 use Rattle.fixed.specs.Nearness.{NearAt, Near30, turned}
-use Rattle.fixed.specs.Laws.Turned.{below_zero, turned_twice}
-use Rattle.fixed_inverse.specs.Laws.Inverse.{Mercator}
+use Rattle.fixed.specs.Laws.Turned.{below_zero}
+use Rattle.fixed.proofs.Laws.Turned.{turned_twice}
+use Rattle.fixed_inverse.proofs.Laws.Inverse.{Mercator}
 use Rattle.projection_worked.specs.Worked.{below_nought}
 use Rattle.projection_worked.specs.Inverse.{undone30, centred30, mercator_pair, Boxed}
 use Rattle.projection_worked.proofs.Laws.West.{keeps_value, flips_value, mirrored}

@@ -10,7 +10,7 @@ use Rattle.rules.proofs.Laws.EastWest.{either_way}
 use Rattle.fixed.specs.Nearness.{turned}
 use Rattle.fixed.specs.Laws.Turned.{below_zero}
 use Rattle.fixed_units.specs.Worked.{convergence_units}
-use Rattle.fixed_units.specs.Convergence.{convergence_units_turned}
+use Rattle.fixed_units.proofs.Laws.Convergence.{convergence_units_turned}
 use Rattle.projection_worked.specs.Worked.{millionths_of, convergence_from, worked_X, worked_Y, worked_scale, worked_convergence, worked_point}
 use Rattle.projection_worked.specs.Inverse.{mercator_pair, difference_from, ticks_from}
 

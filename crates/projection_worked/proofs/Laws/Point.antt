@@ -12,11 +12,12 @@ use Rattle.rules.specs.Rounding.{Within}
 use Rattle.rules.specs.Projection as Unrounded
 use Rattle.rules.specs.Points.{offset_X, offset_Y, latitude_bad, longitude_bad, forward_checks, NearForward, RightForward, RightForwardBy}
 use Rattle.rules.proofs.Laws.Checks.{longitude_exact, forward_passed}
-use Rattle.fixed.specs.Laws.Turned.{below_zero, turned_size}
+use Rattle.fixed.specs.Laws.Turned.{below_zero}
+use Rattle.fixed.proofs.Laws.Turned.{turned_size}
 use Rattle.fixed_bands.specs.Bands.{Latitude}
 use Rattle.fixed_forward.specs.Mercator.{sphere_at, mercator_at}
-use Rattle.fixed_units.specs.Scale.{scale_band}
-use Rattle.fixed_units.specs.Convergence.{convergence_band}
+use Rattle.fixed_units.proofs.Laws.Scale.{scale_band}
+use Rattle.fixed_units.proofs.Laws.Convergence.{convergence_band}
 use Rattle.projection_worked.specs.Worked.{slope_pair, below_nought, millionths_of, scale_from, convergence_from, worked_X, worked_Y, worked_scale, worked_convergence, worked_point, worked_forward}
 use Rattle.projection_worked.proofs.Laws.Forward.{X_near, Y_near}
 use Rattle.projection_worked.proofs.Laws.Derivative.{first_fixed, slope_fixed, slope_sided, other}

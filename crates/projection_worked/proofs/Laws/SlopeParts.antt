@@ -20,8 +20,8 @@ use Rattle.metres.specs.Laws.Plane.{truncated_near}
 use Rattle.fixed.specs.Worked.{S60, mul60, quot60}
 use Rattle.fixed.specs.Relations.{Mul60, Quot60}
 use Rattle.fixed.specs.Nearness.{NearAt, Near60, Fixed, turned}
-use Rattle.fixed.specs.Laws.Words.{mul60_is, quot60_is}
-use Rattle.fixed.specs.Laws.Turned.{turned_twice}
+use Rattle.fixed.proofs.Laws.Words.{mul60_is, quot60_is}
+use Rattle.fixed.proofs.Laws.Turned.{turned_twice}
 use Rattle.projection_worked.specs.Worked.{first41, second41, grain, first60, slope60}
 use Rattle.projection_worked.proofs.Laws.Argument.{part_close}
 use Rattle.projection_worked.specs.Bounds.{Sloped}

@@ -13,7 +13,7 @@ use Rattle.double.proofs.Laws.Systems.{forward_light, derivative_light, inverse_
 use Rattle.metres.specs.Metres.{argument_doubles, arguments_of}
 use Rattle.metres.specs.Laws.Into.{argument_finite, arguments_inside}
 use Rattle.fixed_forward.specs.Mercator.{north_of, east_of}
-use Rattle.fixed_forward.specs.Sizes.{north_size, east_size}
+use Rattle.fixed_forward.proofs.Laws.Sizes.{north_size, east_size}
 use Rattle.projection_worked.specs.Bounds.{limit30}
 use Rattle.projection_worked.specs.Worked.{millionths_of}
 use Rattle.projection_worked.specs.Inverse.{undone30, centred30}

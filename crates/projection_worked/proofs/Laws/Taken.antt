@@ -12,7 +12,7 @@ use Rattle.double.proofs.Laws.Systems.{forward_light, derivative_light}
 use Rattle.metres.specs.Laws.Into.{arguments_inside}
 use Rattle.fixed_bands.specs.Bands.{Latitude}
 use Rattle.fixed_forward.specs.Mercator.{north_of, east_of}
-use Rattle.fixed_forward.specs.Sizes.{north_size, east_size}
+use Rattle.fixed_forward.proofs.Laws.Sizes.{north_size, east_size}
 use Rattle.projection_worked.specs.Worked.{z_of, plane_pair, slope_pair}
 use Rattle.projection_worked.specs.Bounds.{Tame}
 use Rattle.projection_worked.proofs.Laws.Size.{tame}

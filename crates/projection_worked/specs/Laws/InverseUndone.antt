@@ -10,8 +10,9 @@ use Rattle.rules.specs.Units.{millimetres_in_metre}
 use Rattle.rules.specs.Systems.{Ellipsoid, GRS_80, Krasovsky, constants}
 use Rattle.rules.specs.Scaled.{unit, one, quotient}
 use Rattle.fixed.specs.Nearness.{NearAt, turned}
-use Rattle.fixed.specs.Laws.Turned.{below_zero, turned_size}
-use Rattle.fixed.specs.Laws.Bounds.{w_same}
+use Rattle.fixed.specs.Laws.Turned.{below_zero}
+use Rattle.fixed.proofs.Laws.Turned.{turned_size}
+use Rattle.fixed.proofs.Laws.Bounds.{w_same}
 use Rattle.projection_worked.specs.Inverse.{undone30, centre30, centred30}
 use Rattle.projection_worked.specs.Bounds.{limit30}
 use Rattle.projection_worked.proofs.Laws.InverseLengths.{within}

@@ -4,7 +4,8 @@ use Prim.Native.Nat.{ℕ, ◌%◌}
 use native.Mathlib.Omega.{arith}
 use borrow.Author.Rules.{rules}
 use Rattle.fixed_bands.specs.Tables.{shortfall_krasovsky_table}
-use Rattle.fixed_bands.specs.Rows.{RowAt, band_row, next, last}
+use Rattle.fixed_bands.specs.Rows.{RowAt, last}
+use Rattle.fixed_bands.proofs.Laws.Rows.{band_row, next}
 use Rattle.fixed_bands.proofs.shortfall_krasovsky.row.Statement.{statement}
 use Rattle.fixed_bands.proofs.shortfall_krasovsky.row.Tie as tie
 

@@ -9,10 +9,10 @@ use Rattle.arith.specs.Laws.Machine.{v_in}
 use Rattle.arith.specs.Laws.Within.{by_abs}
 use Rattle.fixed.specs.Worked.{S60}
 use Rattle.fixed.specs.Nearness.{turned}
-use Rattle.fixed.specs.Laws.Turned.{turned_within}
+use Rattle.fixed.proofs.Laws.Turned.{turned_within}
 use Rattle.fixed_scale.specs.Convergence.{convergence60}
 use Rattle.fixed_units.specs.Worked.{convergence_units}
-use Rattle.fixed_units.specs.Convergence.{convergence_small}
+use Rattle.fixed_units.proofs.Laws.Convergence.{convergence_small}
 use borrow.Author.Rules.{rules}
 use Rattle.projection.proofs.onward.convergence_of.Statement.{statement}
 use Rattle.projection.proofs.onward.convergence_of.Tie as tie

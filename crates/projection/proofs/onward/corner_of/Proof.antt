@@ -9,7 +9,7 @@ use Rattle.systems.specs.declared.Zone.{Zone}
 use Rattle.arith.specs.Laws.Machine.{v_in}
 use Rattle.arith.specs.Laws.Within.{by_abs, w_add}
 use Rattle.fixed.specs.Nearness.{turned}
-use Rattle.fixed.specs.Laws.Turned.{turned_within}
+use Rattle.fixed.proofs.Laws.Turned.{turned_within}
 use Prim.Native.Nat.{ℕ, ◌≤◌}
 use mathlib.Core.Bool.{Bool}
 use mathlib.Core.Path.{subst}

@@ -15,7 +15,8 @@ use Rattle.fixed.specs.Laws.Turned.{below_zero}
 use Rattle.fixed_forward.specs.Ellipsoids.{which}
 use Rattle.fixed_forward.specs.Points.{IsMercator}
 use Rattle.fixed_forward.specs.declared.Mercator.{Mercator}
-use Rattle.fixed_scale.specs.Answers.{scale_of, scale_is, turn_is}
+use Rattle.fixed_scale.specs.Answers.{scale_of}
+use Rattle.fixed_scale.proofs.Laws.Answers.{scale_is, turn_is}
 use Rattle.fixed_scale.specs.Scale.{square60, ratio60, meridian60, spread60, sphere_scale60}
 use Rattle.fixed_scale.specs.Length.{length60}
 use Rattle.fixed_scale.specs.Convergence.{sine_f60, turn60, turn_of, convergence60}

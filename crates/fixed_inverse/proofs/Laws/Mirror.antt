@@ -12,11 +12,12 @@ use Rattle.rules.specs.Scaled.{unit, Pi, product, quotient, summed, alternating,
 use Rattle.rules.specs.Systems.{Constants}
 use Rattle.rules.specs.Projection.{inverse_from}
 use Rattle.fixed.specs.Nearness.{Ratio, turned}
-use Rattle.fixed.specs.Laws.Bounds.{w_div, w_same, w_up, w_floor}
-use Rattle.fixed.specs.Laws.Products.{product_rest}
-use Rattle.fixed.specs.Laws.Quotients.{ratio_div, ratio_high}
-use Rattle.fixed.specs.Laws.Series.{rest_b, alt_rest}
-use Rattle.fixed.specs.Laws.Turned.{turned_square}
+use Rattle.fixed.proofs.Laws.Bounds.{w_div, w_same, w_up, w_floor}
+use Rattle.fixed.proofs.Laws.Products.{product_rest}
+use Rattle.fixed.proofs.Laws.Quotients.{ratio_div, ratio_high}
+use Rattle.fixed.specs.Laws.Series.{rest_b}
+use Rattle.fixed.proofs.Laws.Series.{alt_rest}
+use Rattle.fixed.proofs.Laws.Turned.{turned_square}
 
 square_even : (x : ℤ) → product (neg_ℤ x) (neg_ℤ x) ≡ product x x
 unfolding turned

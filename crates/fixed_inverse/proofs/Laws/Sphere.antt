@@ -10,9 +10,9 @@ use Rattle.arith.specs.Laws.Within.{w_num, w_add, w_sub, w_mul}
 use Rattle.rules.specs.Scaled.{unit, one, product, quotient, sqrt, root}
 use Rattle.rules.specs.Laws.Root.{root_is}
 use Rattle.fixed.specs.Nearness.{Ratio}
-use Rattle.fixed.specs.Laws.Bounds.{w_div, w_same, w_up, w_pos, w_rest, w_floor, w_from}
-use Rattle.fixed.specs.Laws.Products.{product_rest}
-use Rattle.fixed.specs.Laws.Quotients.{ratio_div, ratio_high, ratio_low}
+use Rattle.fixed.proofs.Laws.Bounds.{w_div, w_same, w_up, w_pos, w_rest, w_floor, w_from}
+use Rattle.fixed.proofs.Laws.Products.{product_rest}
+use Rattle.fixed.proofs.Laws.Quotients.{ratio_div, ratio_high, ratio_low}
 
 -- ---- the definition's root of a number that is not negative
 pub record RootOf (z : ℤ) (r : ℕ) : Type 0 where

@@ -11,15 +11,17 @@ use Rattle.rules.specs.Projection.{latitude_of}
 use Rattle.fixed.specs.Worked.{S60, mul60, alt60, odd_alt60}
 use Rattle.fixed.specs.Nearness.{Near60, Fixed}
 use Rattle.fixed.specs.Relations.{Mul60, Alternating60, falls}
-use Rattle.fixed.specs.Laws.Words.{mul60_is}
-use Rattle.fixed.specs.Laws.Loops.{alt60_is}
-use Rattle.fixed.specs.Laws.Series.{top, alt_top}
-use Rattle.fixed.specs.Laws.Bounds.{w_div, w_same, w_up, w_pos, w_rest}
-use Rattle.fixed.specs.Laws.Products.{near_le, near_add, near_mul, mul_e, slack_e, mul_high, mul_rest, product_rest}
+use Rattle.fixed.proofs.Laws.Words.{mul60_is}
+use Rattle.fixed.proofs.Laws.Loops.{alt60_is}
+use Rattle.fixed.specs.Laws.Series.{top}
+use Rattle.fixed.proofs.Laws.Series.{alt_top}
+use Rattle.fixed.proofs.Laws.Bounds.{w_div, w_same, w_up, w_pos, w_rest}
+use Rattle.fixed.specs.Laws.Products.{mul_e, slack_e}
+use Rattle.fixed.proofs.Laws.Products.{near_le, near_add, near_mul, mul_high, mul_rest, product_rest}
 use Rattle.fixed.specs.Laws.Nested.{all_positive, nest_b}
 use Rattle.fixed_inverse.specs.Worked.{latitude_table, latitude60}
 use Rattle.fixed_inverse.specs.Laws.About52.{f_high}
-use Rattle.fixed_inverse.specs.Laws.Waves.{Wave, next, weights, total, Multiple, Close, no_waves, also, total_size, total_b, near_waves, waves_e, reach, turn_e, place_e, head_e}
+use Rattle.fixed_inverse.proofs.Laws.Waves.{Wave, next, weights, total, Multiple, Close, no_waves, also, total_size, total_b, near_waves, waves_e, reach, turn_e, place_e, head_e}
 
 -- the square of a multiple, against the multiple of the square
 unfoldable pub multiple_e : ℕ → ℕ

@@ -11,19 +11,24 @@ use Rattle.rules.specs.Projection.{K_of, convergence_of}
 use Rattle.rules.specs.Rounding.{Within}
 use Rattle.fixed.specs.Worked.{S60, mul60, odd_alt60}
 use Rattle.fixed.specs.Nearness.{NearAt, Near60, Fixed, turned}
-use Rattle.fixed.specs.Laws.Words.{mul60_is}
-use Rattle.fixed.specs.Laws.Loops.{alt60_is, mul_small}
-use Rattle.fixed.specs.Laws.Bounds.{w_pos}
-use Rattle.fixed.specs.Laws.Products.{near_neg}
-use Rattle.fixed.specs.Laws.Turned.{below_zero, turned_size, turned_within}
-use Rattle.fixed_bands.specs.Bands.{Latitude, longitude_sine_near, longitude_cosine_near}
+use Rattle.fixed.proofs.Laws.Words.{mul60_is}
+use Rattle.fixed.proofs.Laws.Loops.{alt60_is, mul_small}
+use Rattle.fixed.proofs.Laws.Bounds.{w_pos}
+use Rattle.fixed.proofs.Laws.Products.{near_neg}
+use Rattle.fixed.specs.Laws.Turned.{below_zero}
+use Rattle.fixed.proofs.Laws.Turned.{turned_size, turned_within}
+use Rattle.fixed_bands.specs.Bands.{Latitude}
+use Rattle.fixed_bands.proofs.Laws.Bands.{longitude_sine_near, longitude_cosine_near}
 use Rattle.fixed_forward.specs.Sphere.{numerator, denominator}
-use Rattle.fixed_forward.specs.Mercator.{numerator_of, denominator_of, numerator_of_near, denominator_of_near, sphere_at}
+use Rattle.fixed_forward.specs.Mercator.{numerator_of, denominator_of, sphere_at}
+use Rattle.fixed_forward.proofs.Laws.Mercator.{numerator_of_near, denominator_of_near}
 use Rattle.fixed_inverse.specs.Worked.{nearest_even}
-use Rattle.fixed_inverse.specs.Laws.Ticks.{nearest_even_is}
-use Rattle.fixed_scale.specs.Convergence.{slope_table, convergence60, turn_of, sine_f_near, turn_near, convergence_near}
+use Rattle.fixed_inverse.proofs.Laws.Ticks.{nearest_even_is}
+use Rattle.fixed_scale.specs.Convergence.{slope_table, convergence60, turn_of}
+use Rattle.fixed_scale.proofs.Laws.Convergence.{sine_f_near, turn_near, convergence_near}
 use Rattle.fixed_units.specs.Worked.{ThousandthC, angle_units, convergence_units}
-use Rattle.fixed_units.specs.Rounded.{angle_e, rounded_within, within_turn, near_angle, angle_ratio}
+use Rattle.fixed_units.specs.Rounded.{angle_e}
+use Rattle.fixed_units.proofs.Laws.Rounded.{rounded_within, within_turn, near_angle, angle_ratio}
 
 -- ---- the sign is put on last
 none : angle_units 0 ≡ 0

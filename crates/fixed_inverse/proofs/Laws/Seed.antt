@@ -10,9 +10,9 @@ use Rattle.arith.specs.Within.{Within}
 use Rattle.arith.specs.Laws.Within.{by_abs, w_num, w_add, w_sub, w_mul}
 use Rattle.fixed.specs.Worked.{S60}
 use Rattle.fixed.specs.Relations.{Mul60}
-use Rattle.fixed.specs.Laws.Products.{mul_rest}
-use Rattle.fixed.specs.Laws.Bounds.{w_div, w_same, w_up, w_rest}
-use Rattle.fixed_inverse.specs.Laws.Bands.{every, every_at, band_of}
+use Rattle.fixed.proofs.Laws.Products.{mul_rest}
+use Rattle.fixed.proofs.Laws.Bounds.{w_div, w_same, w_up, w_rest}
+use Rattle.fixed_inverse.proofs.Laws.Bands.{every, every_at, band_of}
 use Rattle.fixed_inverse.specs.Laws.Heron.{Squares}
 
 -- k₀ + v·(k₁ − v·k₂) at the scale's cube; its value and its slope at c

@@ -10,11 +10,11 @@ use Rattle.rules.specs.Scaled.{unit, Pi, turned_to}
 use Rattle.fixed.specs.Worked.{S60, mul60}
 use Rattle.fixed.specs.Nearness.{NearAt, Near60, Ratio, turned}
 use Rattle.fixed.specs.Relations.{Mul60}
-use Rattle.fixed.specs.Laws.Words.{mul60_is}
-use Rattle.fixed.specs.Laws.Bounds.{w_div, w_same, w_pos, w_rest}
-use Rattle.fixed.specs.Laws.Products.{mul_rest}
-use Rattle.fixed.specs.Laws.Quotients.{ratio_div}
-use Rattle.fixed.specs.Laws.Turned.{ratio_turned}
+use Rattle.fixed.proofs.Laws.Words.{mul60_is}
+use Rattle.fixed.proofs.Laws.Bounds.{w_div, w_same, w_pos, w_rest}
+use Rattle.fixed.proofs.Laws.Products.{mul_rest}
+use Rattle.fixed.proofs.Laws.Quotients.{ratio_div}
+use Rattle.fixed.proofs.Laws.Turned.{ratio_turned}
 use Rattle.fixed_inverse.specs.Worked.{TickC, nearest_even, ticks60}
 
 -- ---- the nearest whole number

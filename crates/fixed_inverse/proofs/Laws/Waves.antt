@@ -10,10 +10,12 @@ use Rattle.arith.specs.Laws.Within.{by_abs, w_num, w_add, w_sub, w_mul}
 use Rattle.rules.specs.Scaled.{unit, product, nested}
 use Rattle.fixed.specs.Worked.{S60}
 use Rattle.fixed.specs.Relations.{Mul60, Alternating60, none, step}
-use Rattle.fixed.specs.Laws.Products.{mul_rest}
-use Rattle.fixed.specs.Laws.Bounds.{w_div, w_same, w_pos, w_rest}
-use Rattle.fixed.specs.Laws.Series.{top, alt_top}
-use Rattle.fixed.specs.Laws.Nested.{all_positive, nest_b, NearTimes, two_floors, nest_rest, near_cut, first_positive, rest_positive}
+use Rattle.fixed.proofs.Laws.Products.{mul_rest}
+use Rattle.fixed.proofs.Laws.Bounds.{w_div, w_same, w_pos, w_rest}
+use Rattle.fixed.specs.Laws.Series.{top}
+use Rattle.fixed.proofs.Laws.Series.{alt_top}
+use Rattle.fixed.specs.Laws.Nested.{all_positive, nest_b, NearTimes}
+use Rattle.fixed.proofs.Laws.Nested.{two_floors, nest_rest, near_cut, first_positive, rest_positive}
 
 -- weight·(the definition's nest at the argument); the argument is the factor times the square of the angle, nearly
 pub record Wave : Type 0 where

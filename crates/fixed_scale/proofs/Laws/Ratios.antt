@@ -8,9 +8,9 @@ use Rattle.arith.specs.Within.{Within}
 use Rattle.arith.specs.Laws.Within.{w_num, w_add, w_sub, w_mul}
 use Rattle.rules.specs.Scaled.{unit, one, product, quotient}
 use Rattle.fixed.specs.Nearness.{Ratio}
-use Rattle.fixed.specs.Laws.Bounds.{w_div, w_same, w_up, w_floor, triangle}
-use Rattle.fixed.specs.Laws.Products.{product_rest}
-use Rattle.fixed.specs.Laws.Quotients.{ratio_div, ratio_high, ratio_low}
+use Rattle.fixed.proofs.Laws.Bounds.{w_div, w_same, w_up, w_floor, triangle}
+use Rattle.fixed.proofs.Laws.Products.{product_rest}
+use Rattle.fixed.proofs.Laws.Quotients.{ratio_div, ratio_high, ratio_low}
 
 -- a factor that is at least l in size comes off
 pub w_div_by : {n : ℕ} (z k : ℤ) (l : ℕ) → Within (z *ℤ k) n → l ≤ nat_abs k → 0 < l → Within z (n / l)

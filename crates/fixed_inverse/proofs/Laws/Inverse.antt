@@ -13,11 +13,13 @@ use Rattle.fixed.specs.Worked.{S60}
 use Rattle.fixed.specs.Nearness.{Near30, turned}
 use Rattle.fixed_inverse.specs.Worked.{latitude_ticks, difference_ticks}
 use Rattle.fixed_inverse.specs.Examples.{worked, defined}
-use Rattle.fixed_inverse.specs.Laws.Radius.{x_low, x_high, y_high, x_angle, y_angle}
-use Rattle.fixed_inverse.specs.Laws.Turns.{near_sine, near_cosh, near_difference, difference_high}
-use Rattle.fixed_inverse.specs.Laws.About52.{near_sphere}
-use Rattle.fixed_inverse.specs.Laws.Latitude.{near_latitude}
-use Rattle.fixed_inverse.specs.Laws.Ticks.{Tick, tick_near, tick_e}
+use Rattle.fixed_inverse.specs.Laws.Radius.{x_low, x_high, y_high}
+use Rattle.fixed_inverse.proofs.Laws.Radius.{x_angle, y_angle}
+use Rattle.fixed_inverse.specs.Laws.Turns.{difference_high}
+use Rattle.fixed_inverse.proofs.Laws.Turns.{near_sine, near_cosh, near_difference}
+use Rattle.fixed_inverse.proofs.Laws.About52.{near_sphere}
+use Rattle.fixed_inverse.proofs.Laws.Latitude.{near_latitude}
+use Rattle.fixed_inverse.proofs.Laws.Ticks.{Tick, tick_near, tick_e}
 
 -- the box, and that x and y stand for the definition's X and Y; y is a size, and stands for -Y where `west` is set
 pub record Mercator (west : Bool) (x y : ℕ) (X Y : ℤ) : Type 0 where

@@ -3,7 +3,7 @@ use Rattle.std.specs.Prelude.{Bool, true, false, cond, ◌≡◌, refl, List, []
 use Rattle.std.proofs.Common.{sym, ◌∙◌, ap, subst, arith, leb→le, drop-cons}
 use Rattle.fixed.specs.Worked.{S60, mul60, alt60, ser60}
 use Rattle.fixed.specs.Relations.{Mul60, Alternating60, Summed60, none, step, falls}
-use Rattle.fixed.specs.Laws.Words.{prod, mul60_is}
+use Rattle.fixed.proofs.Laws.Words.{prod, mul60_is}
 
 pub both : (a b : Bool) → T (cond a b false) → T a × T b
 both true b t = (tt, t)

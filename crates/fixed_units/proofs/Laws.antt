@@ -1,0 +1,5 @@
+-- What is proved of the definitions.
+pub mod Examples
+pub mod Rounded
+pub mod Scale
+pub mod Convergence
