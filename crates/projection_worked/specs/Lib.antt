@@ -8,4 +8,3 @@ pub mod Worked
 pub mod Inverse
 pub mod Steps
 pub mod Bounds
-pub mod Laws

@@ -18,7 +18,7 @@ use Rattle.fixed.specs.Laws.Turned.{below_zero}
 use Rattle.fixed_inverse.proofs.Laws.Inverse.{definition, latitude_band, difference_band}
 use Rattle.projection_worked.specs.Worked.{millionths_of, below_nought}
 use Rattle.projection_worked.specs.Inverse.{latitude_from, difference_from, worked_pair, worked_ticks, worked_inverse}
-use Rattle.projection_worked.specs.Laws.InverseUndone.{defined_length}
+use Rattle.projection_worked.proofs.Laws.InverseUndone.{defined_length}
 use Rattle.projection_worked.proofs.Laws.InverseBox.{Millionths, system_millionths, north_is, boxed}
 use Rattle.projection_worked.proofs.Laws.InverseTicks.{defined_pair, side_of, mercator, turned_both}
 

@@ -31,7 +31,7 @@ use Rattle.projection_worked.specs.Worked.{below_nought}
 use Rattle.projection_worked.specs.Inverse.{undone30, centred30, mercator_pair, Boxed}
 use Rattle.projection_worked.proofs.Laws.West.{keeps_value, flips_value, mirrored}
 use Rattle.projection_worked.proofs.Laws.InverseLengths.{lengths}
-use Rattle.projection_worked.specs.Laws.InverseUndone.{defined_length}
+use Rattle.projection_worked.proofs.Laws.InverseUndone.{defined_length}
 use Rattle.projection_worked.proofs.Laws.InverseUndone.{turn_close, near_of, undone_near, centred_near, centred_small}
 use Rattle.projection_worked.proofs.Laws.InversePlane.{inverse_first, inverse_second}
 use Rattle.projection_worked.specs.Bounds.{Placed}

@@ -16,7 +16,6 @@ use Rattle.fixed.proofs.Laws.Bounds.{w_same}
 use Rattle.projection_worked.specs.Inverse.{undone30, centre30, centred30}
 use Rattle.projection_worked.specs.Bounds.{limit30}
 use Rattle.projection_worked.proofs.Laws.InverseLengths.{within}
-use Rattle.projection_worked.specs.Laws.InverseUndone.{defined_length}
 
 -- a length near the definition's, from its distance in units of 2^-30 m
 pub near_of : {n w : ℤ} {k : ℕ} → Close n (2 ^ 30) w unit k (2 ^ 30) → NearAt (2 ^ 30) n w (k * unit)
@@ -24,6 +23,10 @@ near_of {n} {w} {k} c = record { gap = by_abs _ (le_of_mul-le-mul_left {k = 2 ^ 
   where
     go : (k t : ℕ) → k * (2 ^ 30 * t) ≡ 2 ^ 30 * (k * t)
     go k t = omega arith
+
+-- the definition's length of a millimetres
+abbrev pub defined_length : ℤ → ℤ → ℤ
+defined_length a m0 = quotient (a *ℤ pos (unit / millimetres_in_metre)) m0
 
 pub turn_close : {v w : ℤ} {s t e d : ℕ} (b : Bool) → Close v s w t e d → Close (turned b v) s (turned b w) t e d
 unfolding turned
