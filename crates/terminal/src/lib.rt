@@ -1,6 +1,8 @@
 // The C interface of the terminal: each call hands on what the library answers. It returns 0 or the refusal's number, and what was lent holds what `Lent` says;
 // the number and the lent memory are those of the worked value, and so of an answer that is right (`band`).
 // include/misgwalor.h declares and documents the calls; the sizes of the fixed arrays are its duty.
+#![tactic(auto)]
+
 ghost use Rattle.std.specs.Prelude.{◌≡◌};
 ghost use Rattle.rules.specs.Conversion.{held, RightConversion};
 ghost use Rattle.rules.specs.FieldAnswers.{accept_answer, field_nozzle_answer, field_position_answer};

@@ -1,4 +1,5 @@
 -- `misgwalor_forward` hands on what `forward` answers. Assumes nothing.
+use mir.Syntax.{w64}
 use mathlib.Core.Path.{◌≡◌, sym, ap, ap₂, ◌∙◌}
 use mir.Facts.{to_z-of_z}
 use borrow.Author.Rules.{rules}
@@ -17,32 +18,32 @@ use Rattle.terminal.proofs.misgwalor_forward.Tie as tie
 forward_requires : tie.Need-forward-requires
 forward_requires c κs = search rules
 
-enum_known_n : tie.Need-enum-known-n
+enum_known_n : tie.Need-enum_known-n
 enum_known_n c = search rules
 
-enum_known_x : tie.Need-enum-known-x
+enum_known_x : tie.Need-enum_known-x
 enum_known_x c = search rules
 
 -- the answer owed
 abbrev owed : tie.After-forward → Answer Point
-owed c = worked_forward c.before.args.code c.before.args.b c.before.args.l
+owed c = worked_forward c.args.code c.args.b c.args.l
 
 -- it is the answer that the library's call gave
 given : (c : tie.After-forward) → owed c ≡ forward_paper c.forward.result
-given c = sym (c.forward.ensures.0 ∙ ap₂ (worked_forward c.before.args.code) (to_z-of_z c.before.ranges.b) (to_z-of_z c.before.ranges.l))
+given c = sym (c.forward.ensures.0 ∙ ap₂ (worked_forward c.args.code) (to_z-of_z c.ranges.b) (to_z-of_z c.ranges.l))
 
-returns : tie.Need-returns
+returns : tie.Need-returns-in-Refused
 returns c =
-    let g = c.before.before.before in
-    both_shown (RightForward _ _ _) refusal_of (λ a. lent point_numbers a g.before.args.answer.now) (owed g) (right.forward_right g.before.args.code g.before.args.b g.before.args.l)
-    (on_refusal point_numbers g.before.args.answer.now _ (given g ∙ ap forward_paper c.before.n.given.1))
+    let g = c.before in
+    both_shown (RightForward _ _ _) refusal_of (λ a. lent point_numbers a g.args.answer.now) (owed g) (right.forward_right g.args.code g.args.b g.args.l)
+    (on_refusal point_numbers g.args.answer.now _ (given g ∙ ap forward_paper c.in-Refused.is))
 
-returns_2 : tie.Need-returns-2
+returns_2 : tie.Need-returns-in-Point
 returns_2 c =
-    let g = c.before.before.before.before in
-    let k = c.before.known-told2.given in
-    both_shown (RightForward _ _ _) refusal_of (λ a. lent point_numbers a g.before.args.answer.now) (owed g) (right.forward_right g.before.args.code g.before.args.b g.before.args.l)
-    (on_answer point_numbers g.before.args.answer.now _ (given g ∙ ap forward_paper c.before.before.x.given.1) (four_same (to_z-of_z (record { sfits = k.0.1 })) (to_z-of_z (record { sfits = k.1.0.1 })) (to_z-of_z (record { sfits = k.1.1.0.1 })) (to_z-of_z (record { sfits = k.1.1.1.0.1 }))))
+    let g = c.before.before in
+    let k = c.in-Point.known_told-in-Point-1-own.given in
+    both_shown (RightForward _ _ _) refusal_of (λ a. lent point_numbers a g.args.answer.now) (owed g) (right.forward_right g.args.code g.args.b g.args.l)
+    (on_answer point_numbers g.args.answer.now _ (given g ∙ ap forward_paper c.in-Point.is) (four_same (to_z-of_z {w = w64} (record { sfits = k.0.1 })) (to_z-of_z {w = w64} (record { sfits = k.1.0.1 })) (to_z-of_z {w = w64} (record { sfits = k.1.1.0.1 })) (to_z-of_z {w = w64} (record { sfits = k.1.1.1.0.1 }))))
 
 pub misgwalor_forward_spec : {M : Type 1} → statement M
 misgwalor_forward_spec =

@@ -1,4 +1,5 @@
 -- `misgwalor_plane_to_plane` hands on what `plane_to_plane` answers. Assumes nothing.
+use mir.Syntax.{w64}
 use mathlib.Core.Path.{◌≡◌, sym, ap, ap₂, ◌∙◌}
 use mir.Facts.{to_z-of_z}
 use borrow.Author.Rules.{rules}
@@ -16,35 +17,35 @@ use Rattle.terminal.specs.Laws.Lent.{on_refusal, on_answer, two_same}
 use Rattle.terminal.proofs.misgwalor_plane_to_plane.Statement.{statement}
 use Rattle.terminal.proofs.misgwalor_plane_to_plane.Tie as tie
 
-plane_to_plane_requires : tie.Need-plane-to-plane-requires
+plane_to_plane_requires : tie.Need-plane_to_plane-requires
 plane_to_plane_requires c κs = search rules
 
-enum_known_n : tie.Need-enum-known-n
+enum_known_n : tie.Need-enum_known-n
 enum_known_n c = search rules
 
-enum_known_to_x : tie.Need-enum-known-to-x
+enum_known_to_x : tie.Need-enum_known-to_x
 enum_known_to_x c = search rules
 
 -- the answer owed
-abbrev owed : tie.After-plane-to-plane → Answer Corner
-owed c = worked_plane c.before.args.source c.before.args.target c.before.args.x c.before.args.y
+abbrev owed : tie.After-plane_to_plane → Answer Corner
+owed c = worked_plane c.args.source c.args.target c.args.x c.args.y
 
 -- it is the answer that the library's call gave
-given : (c : tie.After-plane-to-plane) → owed c ≡ plane_paper c.plane_to_plane.result
-given c = sym (c.plane_to_plane.ensures.0 ∙ ap₂ (worked_plane c.before.args.source c.before.args.target) (to_z-of_z c.before.ranges.x) (to_z-of_z c.before.ranges.y))
+given : (c : tie.After-plane_to_plane) → owed c ≡ plane_paper c.plane_to_plane.result
+given c = sym (c.plane_to_plane.ensures.0 ∙ ap₂ (worked_plane c.args.source c.args.target) (to_z-of_z c.ranges.x) (to_z-of_z c.ranges.y))
 
-returns : tie.Need-returns
+returns : tie.Need-returns-in-Refused
 returns c =
-    let g = c.before.before.before in
-    both_shown (RightPlane _ _ _ _) refusal_of (λ a. lent plane_numbers a g.before.args.answer.now) (owed g) (plane_right right g.before.args.source g.before.args.target g.before.args.x g.before.args.y)
-    (on_refusal plane_numbers g.before.args.answer.now _ (given g ∙ ap plane_paper c.before.n.given.1))
+    let g = c.before in
+    both_shown (RightPlane _ _ _ _) refusal_of (λ a. lent plane_numbers a g.args.answer.now) (owed g) (plane_right right g.args.source g.args.target g.args.x g.args.y)
+    (on_refusal plane_numbers g.args.answer.now _ (given g ∙ ap plane_paper c.in-Refused.is))
 
-returns_2 : tie.Need-returns-2
+returns_2 : tie.Need-returns-in-At
 returns_2 c =
-    let g = c.before.before.before.before in
-    let k = c.before.known-told2.given in
-    both_shown (RightPlane _ _ _ _) refusal_of (λ a. lent plane_numbers a g.before.args.answer.now) (owed g) (plane_right right g.before.args.source g.before.args.target g.before.args.x g.before.args.y)
-    (on_answer plane_numbers g.before.args.answer.now _ (given g ∙ ap plane_paper c.before.before.to-x.given.1) (two_same (to_z-of_z (record { sfits = k.0.1 })) (to_z-of_z (record { sfits = k.1.0.1 }))))
+    let g = c.before.before in
+    let k = c.in-At.known_told-in-At-1-own.given in
+    both_shown (RightPlane _ _ _ _) refusal_of (λ a. lent plane_numbers a g.args.answer.now) (owed g) (plane_right right g.args.source g.args.target g.args.x g.args.y)
+    (on_answer plane_numbers g.args.answer.now _ (given g ∙ ap plane_paper c.in-At.is) (two_same (to_z-of_z {w = w64} (record { sfits = k.0.1 })) (to_z-of_z {w = w64} (record { sfits = k.1.0.1 }))))
 
 pub misgwalor_plane_to_plane_spec : {M : Type 1} → statement M
 misgwalor_plane_to_plane_spec =
