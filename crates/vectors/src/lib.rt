@@ -1,5 +1,5 @@
 // What the test programs read by and count with: numbers of 8 bytes out of lent bytes, records and lists out of a reader, and the tallies that are printed of them. No
-// function but a tally's own parts has a `requires`: a number that is not there is 0. Proved safe; that it reads and counts right is seen by the programs' output.
+// function here has a `requires`: a number that is not there is 0. Which bytes are read is proved; that the tallies are right is seen by the programs' output.
 #![tactic(auto)]
 
 mod groups;
