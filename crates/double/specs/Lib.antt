@@ -1,4 +1,4 @@
--- The definitions, and in Laws what is proved of them.
+-- The definitions; what is proved of them is in proofs/Laws.
 pub mod Value
 pub mod Complex
 pub mod Pairs

@@ -1,5 +1,5 @@
 // Complex numbers as pairs of doubles, by value, and a polynomial with real coefficients at one. Each contract says what the parts are
-// in doubles; how far these are from the exact polynomial is in specs/Laws.
+// in doubles; how far these are from the exact polynomial is in proofs/Laws.
 #![tactic(auto)]
 
 ghost use Rattle.std.specs.Prelude.{◌≡◌};

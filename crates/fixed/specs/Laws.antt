@@ -1,4 +1,4 @@
--- What is proved of the worked numbers: first that they meet their relations (Words, Loops), then how near results are to the definition's values (the others).
+-- What the laws of the worked numbers speak of; the laws are in proofs/Laws.
 pub mod Products
 pub mod Turned
 pub mod Series

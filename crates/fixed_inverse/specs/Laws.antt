@@ -1,7 +1,8 @@
--- What is proved of the worked numbers. Bands, Waves, Heron and Seed are laws over any numbers; the others take the steps of the inverse in their order: Radius
--- (p and q), Turns (their functions, and d), Roots, Sphere and About52 (the sphere's latitude), Latitude (B), Ticks, and Inverse, which has the whole.
+-- What contracts and laws name of the steps of the inverse, in their order: Radius (p and q), Turns (their functions, and d), Roots and About52 (the sphere's
+-- latitude), and Inverse; Heron is over any numbers. The laws are in proofs/Laws.
 pub mod Heron
 pub mod Radius
 pub mod Turns
 pub mod Roots
 pub mod About52
+pub mod Inverse

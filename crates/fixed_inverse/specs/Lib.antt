@@ -1,4 +1,4 @@
--- The inverse from Mercator's x and y to ticks, at scale 2^60. Worked has each number as it is worked; Laws has how near it is to the definition's.
+-- The inverse from Mercator's x and y to ticks, at scale 2^60. Worked has each number as it is worked; Laws has what contracts name of how near it is to the definition's, which proofs/Laws shows.
 pub mod Worked
 pub mod Examples
 pub mod Laws

@@ -1,5 +1,5 @@
 // The inverse from Mercator's x and y to ticks, at scale 2^60 on u64. Each function answers the worked number of the same name in specs/Worked.antt; how near
-// these are to the definition's is specs/Laws/Inverse.antt. Lengths are whole numbers of 2^-30 m. y is a size: the caller puts the sign on d.
+// these are to the definition's is proofs/Laws/Inverse.antt. Lengths are whole numbers of 2^-30 m. y is a size: the caller puts the sign on d.
 #![tactic(auto)]
 
 ghost use Rattle.std.specs.Prelude.{◌≡◌, ℕ, ◌+◌, ◌*◌, ◌/◌, ◌^◌, ◌<◌, ◌≤◌};

@@ -66,7 +66,7 @@ fn one_record<R: Read>(
         return Ok(None);
     };
     let outcome = outcome_of(&record);
-    Ok(Some(groups.with(rt, "forward", &record, outcome)?))
+    Ok(Some(groups.with(rt, b"forward", &record, outcome)?))
 }
 
 fn main(rt: HostRuntime) -> io::Result<()> {
@@ -75,7 +75,7 @@ fn main(rt: HostRuntime) -> io::Result<()> {
     for _ in 0..1000000u64 {
         match one_record(&rt, &mut input, groups)? {
             Some(more) => groups = more,
-            None => return groups.close(&rt, "forward"),
+            None => return groups.close(&rt, b"forward"),
         }
     }
     Ok(())

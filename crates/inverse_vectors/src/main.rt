@@ -29,7 +29,7 @@ fn one_record<R: Read>(
         return Ok(None);
     };
     let outcome = outcome_of(&record);
-    Ok(Some(groups.with(rt, "inverse", &record, outcome)?))
+    Ok(Some(groups.with(rt, b"inverse", &record, outcome)?))
 }
 
 fn main(rt: HostRuntime) -> io::Result<()> {
@@ -38,7 +38,7 @@ fn main(rt: HostRuntime) -> io::Result<()> {
     for _ in 0..1000000u64 {
         match one_record(&rt, &mut input, groups)? {
             Some(more) => groups = more,
-            None => return groups.close(&rt, "inverse"),
+            None => return groups.close(&rt, b"inverse"),
         }
     }
     Ok(())

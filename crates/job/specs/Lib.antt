@@ -2,7 +2,7 @@
 --   Machine   the worked value of a job over bytes: how far it has come, what a byte, a chunk and the end of the file make of it
 --   Runs      what the run's struct stands for in those terms, what bytes make of the struct itself, and what the calls over chunks promise
 --   Passages  the passage through a chunk that leaves the job where it lies: what a byte makes of it, and what it asks of the job
---   Laws      what is proved of them; not needed to read them
+-- What is proved of them is in proofs/Laws; not needed to read them.
 pub mod Machine
 pub mod Runs
 pub mod Passages

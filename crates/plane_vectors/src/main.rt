@@ -30,7 +30,7 @@ fn one_record<R: Read>(
         return Ok(None);
     };
     let outcome = outcome_of(&record);
-    Ok(Some(groups.with(rt, "plane", &record, outcome)?))
+    Ok(Some(groups.with(rt, b"plane", &record, outcome)?))
 }
 
 fn main(rt: HostRuntime) -> io::Result<()> {
@@ -39,7 +39,7 @@ fn main(rt: HostRuntime) -> io::Result<()> {
     for _ in 0..1000000u64 {
         match one_record(&rt, &mut input, groups)? {
             Some(more) => groups = more,
-            None => return groups.close(&rt, "plane"),
+            None => return groups.close(&rt, b"plane"),
         }
     }
     Ok(())

@@ -1,6 +1,6 @@
 -- What the contracts of ring_checks cite, and what is proved of it.
 --   Refusal    the number of a refusal
 --   Reach      checks 7 and 8, by the smallest and the largest number of an axis
---   Laws       laws; not needed to read the contracts
+-- The laws are in proofs/Laws; not needed to read the contracts.
 pub mod Refusal
 pub mod Reach

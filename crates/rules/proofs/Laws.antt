@@ -15,6 +15,7 @@
 pub mod Codes
 pub mod Checks
 pub mod RingChecks
+pub mod Root
 pub mod Nearest
 pub mod OwnAnswers
 pub mod Legs

@@ -10,7 +10,7 @@
 --   01, Refusal numbers and their order  Refusals (the numbers, and checks in order); each call's order stands in its own definition
 --   01, Numbers to try                   Numbers (P1 to P12), Tried (J, the bow tie, the numbers to run, nozzles, each series, two points of each code, each limit)
 --   demand 3                             Demand
--- Computing opens every definition at once, for statements by computation. Laws has what is proved of the rules, and is not needed to read them.
+-- Computing opens every definition at once, for statements by computation. proofs/Laws has what is proved of the rules, and is not needed to read them.
 pub mod Units
 pub mod Refusals
 pub mod Systems

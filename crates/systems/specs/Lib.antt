@@ -1,2 +1,2 @@
--- Zones: what the code's row of a system stands for. Laws: what is proved of it; not needed to read the contracts.
+-- Zones: what the code's row of a system stands for. proofs/Laws: what is proved of it; not needed to read the contracts.
 pub mod Zones

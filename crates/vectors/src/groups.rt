@@ -56,12 +56,12 @@ impl Groups {
     }
 
     // Prints the line of the group that stands.
-    pub fn close(self, rt: &impl Print, name: &str) -> io::Result<()> {
+    pub fn close(self, rt: &impl Print, name: &[u8]) -> io::Result<()> {
         self.tally.print(rt, name, self.group)
     }
 
     // The tally to go on with: the group's own, or a new one, the line of the group before being printed.
-    fn tally_for(self, rt: &impl Print, name: &str, group: u64) -> io::Result<Tally> {
+    fn tally_for(self, rt: &impl Print, name: &[u8], group: u64) -> io::Result<Tally> {
         if !self.begun || self.group == group {
             return Ok(self.tally);
         }
@@ -73,7 +73,7 @@ impl Groups {
     pub fn with(
         self,
         rt: &impl Print,
-        name: &str,
+        name: &[u8],
         record: &[u8],
         outcome: Outcome,
     ) -> io::Result<Groups> {

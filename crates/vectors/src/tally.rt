@@ -130,8 +130,9 @@ impl Tally {
     }
 
     // Prints the group's line: the call's name, the group, and what was counted.
-    pub fn print(self, rt: &impl Print, name: &str, group: u64) -> io::Result<()> {
-        println!(rt; "{name} {group}{self}")
+    pub fn print(self, rt: &impl Print, name: &[u8], group: u64) -> io::Result<()> {
+        rt.write_all(name)?;
+        println!(rt; " {group}{self}")
     }
 }
 

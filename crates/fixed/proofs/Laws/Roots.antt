@@ -7,7 +7,7 @@ use Rattle.arith.specs.Laws.Ring.{ring, Z·ring, by_ring}
 use Rattle.arith.specs.Within.{Within}
 use Rattle.arith.specs.Laws.Within.{w_num, w_add, w_mul}
 use Rattle.rules.specs.Scaled.{unit, root, sqrt}
-use Rattle.rules.specs.Laws.Root.{root_is}
+use Rattle.rules.proofs.Laws.Root.{root_is}
 use Rattle.fixed.specs.Worked.{S60}
 use Rattle.fixed.specs.Nearness.{Near60}
 use Rattle.fixed.proofs.Laws.Bounds.{w_same, w_rest}

@@ -20,6 +20,7 @@ use Rattle.fixed_inverse.proofs.Laws.Turns.{near_sine, near_cosh, near_differenc
 use Rattle.fixed_inverse.proofs.Laws.About52.{near_sphere}
 use Rattle.fixed_inverse.proofs.Laws.Latitude.{near_latitude}
 use Rattle.fixed_inverse.proofs.Laws.Ticks.{Tick, tick_near, tick_e}
+use Rattle.fixed_inverse.specs.Laws.Inverse.{latitude_gap}
 
 -- the box, and that x and y stand for the definition's X and Y; y is a size, and stands for -Y where `west` is set
 pub record Mercator (west : Bool) (x y : ℕ) (X Y : ℤ) : Type 0 where
@@ -46,10 +47,6 @@ band {k} {t} true value u h = record { bound = hundredths k (nat_abs (neg_ℤ (p
   where
     law : (t w U : ℤ) → neg_ℤ (t *ℤ U -ℤ neg_ℤ w) ≡ neg_ℤ t *ℤ U -ℤ w
     law t w U = ring (t ∷ w ∷ U ∷ []) λ ρ e1 e2 e3. simp (Z·ring, e1, e2, e3) (by_ring _ _ _ refl)
-
--- how near the latitude is shown to be, in thousandths of a tick
-abbrev pub latitude_gap : ℕ
-latitude_gap = 518
 
 -- a point of Examples: rounded, its latitude is 0.2154 tick off, and no bound nearer than that is true
 latitude_there : Tick latitude_gap (latitude_ticks GRS_80 (5780000 * 2 ^ 30) (120000 * 2 ^ 30)) (definition GRS_80 (5780000 /10^ 0) (120000 /10^ 0)).B

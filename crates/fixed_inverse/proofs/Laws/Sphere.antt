@@ -8,7 +8,7 @@ use Rattle.arith.specs.Laws.Ring.{ring, Z·ring, by_ring, ev_num}
 use Rattle.arith.specs.Within.{Within}
 use Rattle.arith.specs.Laws.Within.{w_num, w_add, w_sub, w_mul}
 use Rattle.rules.specs.Scaled.{unit, one, product, quotient, sqrt, root}
-use Rattle.rules.specs.Laws.Root.{root_is}
+use Rattle.rules.proofs.Laws.Root.{root_is}
 use Rattle.fixed.specs.Nearness.{Ratio}
 use Rattle.fixed.proofs.Laws.Bounds.{w_div, w_same, w_up, w_pos, w_rest, w_floor, w_from}
 use Rattle.fixed.proofs.Laws.Products.{product_rest}

@@ -9,7 +9,7 @@ use Rattle.arith.specs.Laws.Ring.{ring, Z·ring, by_ring}
 use Rattle.arith.specs.Within.{Within}
 use Rattle.arith.specs.Laws.Within.{by_abs, w_num, w_add, w_sub, w_neg, w_mul}
 use Rattle.rules.specs.Scaled.{unit, root, sqrt, quotient}
-use Rattle.rules.specs.Laws.Root.{root_is}
+use Rattle.rules.proofs.Laws.Root.{root_is}
 use Rattle.fixed.proofs.Laws.Bounds.{w_same, w_up, w_rest}
 use Rattle.fixed.proofs.Laws.Quotients.{ratio_div}
 use Rattle.fixed_bands.specs.Worked.{width}
