@@ -2,4 +2,5 @@
 pub mod Examples
 pub mod Rounded
 pub mod Scale
+pub mod ScaleBand
 pub mod Convergence

@@ -1,25 +1,18 @@
 -- The scale in whole units of 10^-9: how near it is to the definition's. Assumes nothing: the derivative's first part and slope come from f64, and how near they
 -- are is for the caller to show.
-use Rattle.std.specs.Prelude.{Bool, ◌≡◌, refl, [], ◌∷◌, ℕ, ◌+◌, ◌*◌, ◌/◌, ◌%◌, ◌^◌, ◌<◌, ◌≤◌, ℤ, pos, ◌+ℤ◌, ◌-ℤ◌, ◌*ℤ◌}
+use Rattle.std.specs.Prelude.{◌≡◌, refl, [], ◌∷◌, ℕ, ◌+◌, ◌*◌, ◌/◌, ◌%◌, ◌^◌, ◌<◌, ◌≤◌, ℤ, pos, ◌+ℤ◌, ◌-ℤ◌, ◌*ℤ◌}
 use Rattle.std.proofs.Common.{mod-lt, div-add-mod', arith, lit<}
 use Rattle.arith.specs.Laws.Ring.{ring, Z·ring, by_ring}
 use Rattle.arith.specs.Within as A
 use Rattle.arith.specs.Laws.Within.{w_num, w_add, w_sub, w_mul}
 use Rattle.rules.specs.Units.{◌°◌'◌'', units_in_scale}
-use Rattle.rules.specs.Systems.{Ellipsoid, constants}
-use Rattle.rules.specs.Scaled.{unit, product, quotient, radians, sine, cosine, Pair}
-use Rattle.rules.specs.Projection as defined
-use Rattle.rules.specs.Projection.{two_millionths}
+use Rattle.rules.specs.Scaled.{unit, product}
 use Rattle.rules.specs.Rounding.{Within}
-use Rattle.fixed.specs.Worked.{S60, P30}
-use Rattle.fixed.specs.Nearness.{NearAt, Near60, Fixed, turned}
+use Rattle.fixed.specs.Worked.{P30}
+use Rattle.fixed.specs.Nearness.{NearAt, Near60}
 use Rattle.fixed.proofs.Laws.Bounds.{w_div, w_same, w_pos, w_rest}
-use Rattle.fixed.proofs.Laws.Products.{near_le, product_rest}
-use Rattle.fixed_bands.specs.Bands.{Latitude}
-use Rattle.fixed_forward.specs.Mercator.{sphere_at}
+use Rattle.fixed.proofs.Laws.Products.{product_rest}
 use Rattle.fixed_inverse.proofs.Laws.Ticks.{nearest_even_is}
-use Rattle.fixed_scale.specs.Answers.{scale_of}
-use Rattle.fixed_scale.proofs.Laws.Answers.{scale_near}
 use Rattle.fixed_units.specs.Worked.{scale_units, m0_units}
 use Rattle.fixed_units.proofs.Laws.Rounded.{rounded_within}
 use Rattle.fixed_units.specs.Scale.{times_e}
@@ -59,17 +52,3 @@ times_near {sc} {e} {w} M l h = record {
 pub scale_units_near : {sc : ℕ} {w : ℤ} (M : ℕ) → M ≤ 1000000 → Near60 sc w (1500000 * unit) → Within 51 (pos (scale_units (m0_units M) sc)) (pos units_in_scale *ℤ product w (pos (M * 10 ^ 18)))
 unfolding scale_units times_e
 scale_units_near {sc} M l h = rounded_within 51 P30 (lit< tt) (times_near M l h) (nearest_even_is (sc * m0_units M / P30) P30 (lit< tt)) tt
-
--- for every ellipsoid, m0, latitude and difference of longitude, and every first part and slope near the derivative's
-pub scale_band : {first slope : ℕ} (E : Ellipsoid) (M : ℕ)
-    → M ≤ 1000000
-    → (n : ℕ)
-    → Latitude n
-    → (s : Bool) (d : ℕ)
-    → d ≤ 5 ° 30 ' 0 ''
-    → (b : Bool) (h : Pair)
-    → Fixed first (product h.first two_millionths) (300000 * unit) (99 * S60 / 100) (101 * S60 / 100)
-    → Fixed slope (turned b (quotient h.second h.first)) (2000000 * unit) 0 (30 * S60 / 100000)
-    → Within 51 (pos (scale_units (m0_units M) (scale_of E n d first slope))) (pos units_in_scale *ℤ defined.scale_of (constants E) (pos (M * 10 ^ 18)) (sphere_at E n) (sine (radians (pos n))) (cosine (radians (pos n))) (sine (radians (turned s (pos d)))) h)
-unfolding defined.scale_of
-scale_band E M m n l s d g b h f fσ = scale_units_near M m (near_le (1500000 * unit) (scale_near E n l s d g b h f fσ).near tt)

@@ -16,7 +16,7 @@ use Rattle.fixed.specs.Laws.Turned.{below_zero}
 use Rattle.fixed.proofs.Laws.Turned.{turned_size}
 use Rattle.fixed_bands.specs.Bands.{Latitude}
 use Rattle.fixed_forward.specs.Mercator.{sphere_at, mercator_at}
-use Rattle.fixed_units.proofs.Laws.Scale.{scale_band}
+use Rattle.fixed_units.proofs.Laws.ScaleBand.{scale_band}
 use Rattle.fixed_units.proofs.Laws.Convergence.{convergence_band}
 use Rattle.projection_worked.specs.Worked.{slope_pair, below_nought, millionths_of, scale_from, convergence_from, worked_X, worked_Y, worked_scale, worked_convergence, worked_point, worked_forward}
 use Rattle.projection_worked.proofs.Laws.Forward.{X_near, Y_near}
