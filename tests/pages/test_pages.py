@@ -13,6 +13,9 @@ ROOT = Path(__file__).resolve().parent.parent.parent
 PAGES = [ROOT / "README.md"] + sorted((ROOT / "docs").glob("*.md"))
 FOLDERS = ("crates/", "docs/", "reference/", "tests/", "tools/", "bench/", "examples/", "include/", ".ci/")
 DECLARED = re.compile(r"^\s*(?:unfoldable |abbrev )?(?:pub )?(?:record |data )?([^\s:({]+)(?=[ :({])", re.M)
+RUST = re.compile(r"\b(?:fn|struct|enum|const|mod) (\w+)")
+# what the pages name of other programs
+PEERS = {"proj_trans", "proj_factors"}
 PUBLIC = re.compile(r"pub (?:extern \"C\" )?fn (\w+)")
 
 
@@ -49,9 +52,11 @@ class Pages(unittest.TestCase):
 
     def test_names_are_declared(self):
         names = {name for path in sources("antt") for name in DECLARED.findall(path.read_text())}
-        names |= set(re.findall(r"lib[\w+-]+", (ROOT / "bench" / "run").read_text()))
-        hyphened = re.compile(r"[A-Za-z0-9]+(?:-[A-Za-z0-9]+)+")
-        missing = [(page.name, word) for page in PAGES for word in words(page) if hyphened.fullmatch(word) and word not in names]
+        names |= {name for path in sources("rt") for name in RUST.findall(path.read_text())}
+        names |= {path.stem for ending in ("rt", "edit") for path in sources(ending)} | {path.name for path in (ROOT / "crates").iterdir()}
+        names |= set(re.findall(r"lib[\w+-]+", (ROOT / "bench" / "run").read_text())) | PEERS
+        made = re.compile(r"[A-Za-z0-9']+(?:[_-][A-Za-z0-9']+)+|[A-Z][a-z0-9]+(?:[A-Z][A-Za-z0-9]*)+")
+        missing = [(page.name, word) for page in PAGES for word in words(page) if made.fullmatch(word) and word not in names]
         self.assertEqual(missing, [])
 
     def test_edits_are_there(self):
