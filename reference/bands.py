@@ -66,8 +66,8 @@ def shortfall_series(e):
     return of
 
 
-# Series, signs, first degree, number of bands: 32 everywhere, though a difference of longitude only comes to the first 22, because the code finds a row by
-# five bits.
+# Series, signs, first degree, number of bands: 32 everywhere, though a difference of longitude only comes to the first 22, because the code
+# finds a row of every table by one function.
 KINDS = {
     "latitude_sine": (sine_series, RISING, 48, 32),
     "latitude_cosine": (cosine_series, SINKING, 48, 32),
@@ -92,8 +92,8 @@ def tables():
 
 
 def rust(name, rows):
-    body = "".join(f"    {number},\n" for numbers in rows for number in numbers)
-    return f"const {name.upper()}: [u64; {len(rows) * TERMS}] = [\n{body}];\n"
+    body = "".join("    Row {\n" + "".join(f"        c{k}: {number},\n" for k, number in enumerate(numbers)) + "    },\n" for numbers in rows)
+    return f"// src/{name}.rt\npub static ROWS: [Row; {len(rows)}] = [\n{body}];\n"
 
 
 def antt(name, rows):

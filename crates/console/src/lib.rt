@@ -8,30 +8,21 @@ use job::run::Run;
 use std::io;
 use std::io::Read;
 
-#[derive(Clone, Copy)]
-struct Turn {
-    run: Run,
-    more: bool,
-}
-
-// A chunk, and what it prints: no more is to be read where a record was refused.
-fn digest(rt: &impl Print, run: Run, chunk: &[u8], out: &mut [u8]) -> io::Result<Turn> {
+// A chunk, and what it prints: the run to go on with, or `None` where a record was refused, after which no more is to be read.
+fn digest(rt: &impl Print, run: Run, chunk: &[u8], out: &mut [u8]) -> io::Result<Option<Run>> {
     let mut now = run;
     let mut at: usize = 0;
+    // No `for`: each call says how far the next one starts.
     while at < chunk.len() {
         let fed = now.feed(&chunk[at..], out);
         now = fed.run;
         if fed.used == 0 {
-            return Ok(Turn {
-                run: now,
-                more: false,
-            });
+            return Ok(None);
         }
         at += fed.used;
         emit(rt, out, fed.wrote)?;
     }
-    let more = !now.stopped;
-    Ok(Turn { run: now, more })
+    Ok(if now.stopped { None } else { Some(now) })
 }
 
 fn emit(rt: &impl Print, out: &[u8], count: usize) -> io::Result<()>
@@ -45,18 +36,18 @@ fn end(rt: &impl Print, run: Run, out: &mut [u8]) -> io::Result<()> {
     emit(rt, out, wrote)
 }
 
-// One read: a chunk of the file, or its end.
+// One read: a chunk of the file, or its end. The run to go on with, or `None` where nothing more is to be read.
 fn take_turn<R: Read>(
     rt: &impl Print,
     source: &mut R,
     run: Run,
     input: &mut [u8],
     out: &mut [u8],
-) -> io::Result<Turn> {
+) -> io::Result<Option<Run>> {
     let count = source.read(input)?;
     if count == 0 {
         end(rt, run, out)?;
-        return Ok(Turn { run, more: false });
+        return Ok(None);
     }
     digest(rt, run, &input[..count], out)
 }
@@ -68,12 +59,12 @@ fn process<R: Read>(
     out: &mut [u8],
 ) -> io::Result<()> {
     let mut run = Run::new();
+    // A count, because every loop has to end; no input is so long.
     for _ in 0..u64::MAX {
-        let turn = take_turn(rt, source, run, input, out)?;
-        if !turn.more {
-            break;
+        match take_turn(rt, source, run, input, out)? {
+            Some(more) => run = more,
+            None => break,
         }
-        run = turn.run;
     }
     Ok(())
 }

@@ -1,8 +1,10 @@
 -- Conversion of a whole ring: what the call answers and what its output holds. Definitions only.
-use Rattle.std.specs.Prelude.{Bool, true, false, List, ℕ, ltb, ℤ, length}
-use Rattle.rules.specs.Refusals.{Answer, answered, refused, ◌>>=◌, ◌>>◌, ◌if◌, output_too_short}
+use Rattle.std.specs.Prelude.{List, ℕ, ltb, ℤ, length, take, Result}
+use Rattle.rules.specs.Refusals.{Answer, ◌>>=◌, ◌>>◌, ◌if◌, output_too_short}
 use Rattle.rules.specs.RingAnswers.{ring_checks}
 use Rattle.rules.specs.Conversion.{converted, conversion_by}
+use Rattle.terms.specs.Papers.{paper}
+use Rattle.terms.specs.declared.refusals.Refusal.{Refusal}
 use Rattle.conversion.specs.Plane.{worked_plane, carried}
 
 -- what the call answers, and with `held` what its output holds
@@ -14,7 +16,6 @@ abbrev pub ring_carried : ℕ → ℕ → List ℤ → List ℤ → Answer (List
 ring_carried source target numbers output =
     ring_checks numbers >>= λ r. (output_too_short if ltb (length output) (length numbers)) >> converted (carried source target) r
 
--- what the loop over the corners hands back: refused with a number, or the numbers of the corners
-abbrev pub outcome : Bool → ℕ → List ℤ → Answer (List ℤ)
-outcome true n numbers = refused n
-outcome false n numbers = answered numbers
+-- what the loop over the corners hands back: the numbers of the corners, of which so many count, or a corner's refusal
+abbrev pub outcome : ℕ → Result (List ℤ) Refusal → Answer (List ℤ)
+outcome count = paper (take count)

@@ -3,21 +3,21 @@
 // call place k holds k + 1.
 #![tactic(auto)]
 
-ghost use Rattle.std.specs.Prelude.{◌≤◌};
-
-use conversion::Verdict;
 use std::io::Read;
 use std::{fmt, io};
 
-// What the call answers, as a line has it.
+// What stands for lists that are shorter than the case says. By number, as the refusals beside it, because such a list is no refusal of ours.
+const TOO_SHORT: u8 = 255;
+
+// What the call answers, as a line has it: a refusal by its number.
 #[derive(Clone, Copy)]
-struct Said(Verdict);
+struct Said(Result<(), u8>);
 
 impl fmt::Display for Said {
     fn fmt<W: fmt::Write>(&self, f: &mut fmt::Formatter<W>) -> fmt::Result {
         match self.0 {
-            Verdict::Passed => write!(f, "converted"),
-            Verdict::Refused(refusal) => write!(f, "refused {refusal}"),
+            Ok(()) => write!(f, "converted"),
+            Err(refusal) => write!(f, "refused {refusal}"),
         }
     }
 }
@@ -26,11 +26,10 @@ impl fmt::Display for Said {
 fn put_case(
     rt: &impl Print,
     number: u64,
-    verdict: Verdict,
+    said: Said,
     places: usize,
-    wrong: u64,
+    wrong: usize,
 ) -> io::Result<()> {
-    let said = Said(verdict);
     println!(rt; "{number} {said} places {places} wrong {wrong}")
 }
 
@@ -48,25 +47,16 @@ fn fill(output: &mut [i64]) {
     }
 }
 
-fn one_if_other(a: i64, b: i64) -> u64
-    ensures { result ≤ 1 }
-{
-    if a == b { 0 } else { 1 }
-}
-
 // How many of the first `count` places differ; 9999 where either list has fewer.
-fn differing(output: &[i64], expected: &[i64], count: usize) -> u64 {
-    let mut wrong: u64 = 0;
-    for k in 0..count {
-        if output.len() <= k || expected.len() <= k {
-            return 9999;
-        }
-        if 9999 <= wrong {
-            return wrong;
-        }
-        wrong += one_if_other(output[k], expected[k]);
-    }
-    wrong
+fn differing(output: &[i64], expected: &[i64], count: usize) -> usize {
+    let (Some(output), Some(expected)) = (output.get(..count), expected.get(..count)) else {
+        return 9999;
+    };
+    output
+        .iter()
+        .zip(expected.iter())
+        .filter(|(held, wanted)| held != wanted)
+        .count()
 }
 
 // Converts the list into `room` places of the output.
@@ -77,11 +67,17 @@ fn converted(
     count: usize,
     output: &mut [i64],
     room: usize,
-) -> Verdict {
+) -> Result<(), u8> {
     if numbers.len() < count || output.len() < room {
-        return Verdict::Refused(255);
+        return Err(TOO_SHORT);
     }
-    conversion::convert_ring(source, target, &numbers[..count], &mut output[..room])
+    let converted = conversion::convert_ring(
+        source,
+        target,
+        &numbers[..count],
+        &mut output[..room],
+    );
+    converted.map_err(|refusal| refusal.number())
 }
 
 fn code_of(word: u64) -> u8 {
@@ -112,17 +108,18 @@ fn one_case<R: Read>(
     let room = length_of(vectors::nth_word(&head, 4));
     vectors::take_list(input, numbers, count)?;
     fill(output);
-    let verdict = converted(source, target, numbers, count, output, room);
+    let said = Said(converted(source, target, numbers, count, output, room));
     vectors::take_list(input, numbers, room)?;
     let wrong = differing(output, numbers, room);
-    put_case(rt, number, verdict, room, wrong)?;
+    put_case(rt, number, said, room, wrong)?;
     Ok(true)
 }
 
 fn main(rt: HostRuntime) -> io::Result<()> {
     let mut input = rt.reader();
-    let mut numbers = vectors::number_room();
-    let mut output = vectors::number_room();
+    let mut numbers = [0i64; 2051];
+    let mut output = [0i64; 2051];
+    // A count, because every loop has to end; no input of the gate is so long.
     for number in 1..1000000u64 {
         if !one_case(&rt, &mut input, &mut numbers, &mut output, number)? {
             break;

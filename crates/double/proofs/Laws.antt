@@ -6,6 +6,7 @@ pub mod Operations
 pub mod Products
 pub mod Modulus
 pub mod Horner
+pub mod Loop
 pub mod Tables
 pub mod Bound
 pub mod Promise

@@ -46,14 +46,12 @@ fn next(r: Pair, z: Pair, c: f64) -> Pair
 pub fn polynomial(c: &[f64], z: Pair) -> Pair
     ensures { result ≡ horner c.now z }
 {
-    if c.len() == 0 {
+    let [rest @ .., last] = c else {
         return Pair { re: 0.0, im: 0.0 };
-    }
-    let mut i = c.len() - 1;
-    let mut sum = Pair { re: c[i], im: 0.0 };
-    while i > 0 {
-        i -= 1;
-        sum = next(sum, z, c[i]);
+    };
+    let mut sum = Pair { re: *last, im: 0.0 };
+    for &coefficient in rest.iter().rev() {
+        sum = next(sum, z, coefficient);
     }
     sum
 }

@@ -5,9 +5,10 @@
 
 ghost use Rattle.std.specs.Prelude.{length, max, ◌≡◌, ◌≤◌, IfOk};
 
-use fields::{FieldAnswer, FieldNozzle};
 use std::io::Read;
 use std::{fmt, io};
+use terms::{Corner, Refusal};
+use vectors::Standing;
 
 // The most rings and numbers that a case may have, and how many numbers are read at a time: `vectors` has room for those of one ring.
 const MOST_RINGS: u64 = 32;
@@ -16,50 +17,31 @@ const MOST_NUMBERS: u64 = 8192;
 
 const PIECE: usize = 2048;
 
-fn count_room() -> [u32; 32]
-    ensures { 32 ≡ length result }
-{
-    [0; 32]
-}
-
-fn number_room() -> [i64; 8192]
-    ensures { 8192 ≡ length result }
-{
-    [0; 8192]
-}
-
-// What a call answers, as a line has it. The refusal 9 has the ring, its two edges, and how many pairs of edges of it were looked at.
+// What a call answers, as a line has it: its value, or the refusal's number. The refusal 9 has the ring, its two edges, and how many pairs of edges of it were looked at.
 #[derive(Clone, Copy)]
-struct Answer(FieldAnswer);
+struct Said<T>(Result<T, Refusal>);
 
-#[derive(Clone, Copy)]
-struct Nozzle(FieldNozzle);
-
-impl fmt::Display for Answer {
+impl<T: fmt::Display> fmt::Display for Said<T> {
     fn fmt<W: fmt::Write>(&self, f: &mut fmt::Formatter<W>) -> fmt::Result {
-        match self.0 {
-            FieldAnswer::Accepted => write!(f, "ok"),
-            FieldAnswer::Crossed(ring, low, high, looked) => write!(
+        match &self.0 {
+            Ok(value) => write!(f, "{value}"),
+            Err(Refusal::RingCrossed(pair)) => write!(
                 f,
-                "9 {ring} {low} {high} {looked}"
+                "9 {} {} {} {}",
+                pair.ring, pair.low, pair.high, pair.looked_at
             ),
-            FieldAnswer::Refused(refusal) => write!(f, "{refusal}"),
+            Err(refusal) => write!(f, "{}", refusal.number()),
         }
     }
 }
 
-impl fmt::Display for Nozzle {
+// A field that is accepted.
+#[derive(Clone, Copy)]
+struct Accepted;
+
+impl fmt::Display for Accepted {
     fn fmt<W: fmt::Write>(&self, f: &mut fmt::Formatter<W>) -> fmt::Result {
-        match self.0 {
-            FieldNozzle::Open => write!(f, "open"),
-            FieldNozzle::Border => write!(f, "border"),
-            FieldNozzle::Shut => write!(f, "shut"),
-            FieldNozzle::Crossed(ring, low, high, looked) => write!(
-                f,
-                "9 {ring} {low} {high} {looked}"
-            ),
-            FieldNozzle::Refused(refusal) => write!(f, "{refusal}"),
-        }
+        write!(f, "ok")
     }
 }
 
@@ -69,31 +51,17 @@ fn put_case(
     number: u64,
     counts: &[u32],
     corners: &[i64],
-    x: i64,
-    y: i64,
+    p: Corner,
 ) -> io::Result<()> {
-    let accept = Answer(fields::accept(counts, corners));
-    let nozzle = Nozzle(fields::nozzle(counts, corners, x, y));
-    let position = Nozzle(fields::position(counts, corners, x, y));
+    let accept = Said(fields::accept(counts, corners).map(|_| Accepted));
+    let nozzle = Said(fields::nozzle(counts, corners, p).map(|position| Standing(position)));
+    let position = Said(fields::position(counts, corners, p).map(|position| Standing(position)));
     println!(rt; "{number} accept {accept} nozzle {nozzle} position {position}")
 }
 
 // A count, which the makers keep below 2^32.
-fn count_of(word: u64) -> u32 {
-    (word % 4294967296) as u32
-}
-
-// Lays out the first `rings` counts that were read, and answers how many of them there is room for.
-fn spread(counts: &mut [u32], bytes: &[u8], rings: usize) -> usize {
-    let mut spread = 0;
-    for (k, count) in counts.iter_mut().enumerate() {
-        if rings <= k {
-            break;
-        }
-        *count = count_of(vectors::nth_word(bytes, k));
-        spread = k + 1;
-    }
-    spread
+fn nth_count(bytes: &[u8], before: usize) -> u32 {
+    (vectors::nth_word(bytes, before) % 4294967296) as u32
 }
 
 // Reads the counts of so many rings, and answers how many there were: none where the rings are past the room.
@@ -104,7 +72,7 @@ fn take_counts<R: Read>(input: &mut R, counts: &mut [u32], said: u64) -> io::Res
     let mut bytes = [0u8; 256];
     let size = (said as usize) * 8;
     let got = vectors::read_full(input, &mut bytes[..size])?;
-    Ok(spread(counts, &bytes, got / 8))
+    Ok(vectors::spread(counts, &bytes, got / 8, nth_count))
 }
 
 // How many numbers the next piece of a list of `count` has, behind the first `at`.
@@ -133,11 +101,12 @@ fn take_numbers<R: Read>(input: &mut R, numbers: &mut [i64], said: u64) -> io::R
     if MOST_NUMBERS < said {
         return Ok(0);
     }
-    let count = said as usize;
-    let first = take_piece(input, numbers, 0, count)?;
-    let second = take_piece(input, numbers, first, count)?;
-    let third = take_piece(input, numbers, second, count)?;
-    take_piece(input, numbers, third, count)
+    let mut at = 0;
+    // The most numbers are four pieces.
+    for _ in 0..4 {
+        at = take_piece(input, numbers, at, said as usize)?;
+    }
+    Ok(at)
 }
 
 // How many rings and numbers the field of a case has, for a case that goes on with it.
@@ -154,14 +123,13 @@ fn print_case(
     numbers: &[i64],
     number: u64,
     turn: Turn,
-    x: i64,
-    y: i64,
+    p: Corner,
 ) -> io::Result<Option<Turn>> {
     let Turn { rings, count } = turn;
     if counts.len() < rings || numbers.len() < count {
         return Ok(None);
     }
-    put_case(rt, number, &counts[..rings], &numbers[..count], x, y)?;
+    put_case(rt, number, &counts[..rings], &numbers[..count], p)?;
     Ok(Some(turn))
 }
 
@@ -179,9 +147,11 @@ fn new_field<R: Read>(
         return Ok(None);
     };
     let count = take_numbers(input, numbers, vectors::nth_word(&head, 0))?;
-    let x = vectors::nth_number(&head, 1);
-    let y = vectors::nth_number(&head, 2);
-    print_case(rt, counts, numbers, number, Turn { rings, count }, x, y)
+    let p = Corner {
+        x: vectors::nth_number(&head, 1),
+        y: vectors::nth_number(&head, 2),
+    };
+    print_case(rt, counts, numbers, number, Turn { rings, count }, p)
 }
 
 // A case with the field of the one before.
@@ -196,9 +166,11 @@ fn same_field<R: Read>(
     let Some(point) = vectors::read_record::<16, R>(input)? else {
         return Ok(None);
     };
-    let x = vectors::nth_number(&point, 0);
-    let y = vectors::nth_number(&point, 1);
-    print_case(rt, counts, numbers, number, before, x, y)
+    let p = Corner {
+        x: vectors::nth_number(&point, 0),
+        y: vectors::nth_number(&point, 1),
+    };
+    print_case(rt, counts, numbers, number, before, p)
 }
 
 // The field of the next case, or `None` where the input ends. -1 is the largest word.
@@ -222,9 +194,10 @@ fn one_case<R: Read>(
 
 fn main(rt: HostRuntime) -> io::Result<()> {
     let mut input = rt.reader();
-    let mut counts = count_room();
-    let mut numbers = number_room();
+    let mut counts = [0u32; 32];
+    let mut numbers = [0i64; 8192];
     let mut turn = Turn { rings: 0, count: 0 };
+    // A count, because every loop has to end; no input of the gate is so long.
     for number in 1..1000000u64 {
         match one_case(&rt, &mut input, &mut counts, &mut numbers, number, turn)? {
             Some(next) => turn = next,

@@ -1,11 +1,11 @@
 -- A ring that comes to the rings of a field, as the code asks it. Assumes nothing.
 use Rattle.std.specs.Prelude.{◌≡◌, List, [], ◌∷◌, map, ℕ, ◌*◌, ◌-◌, ◌<◌, ℤ, length, get_or}
 use Rattle.rules.specs.Refusals.{Answer, answered, Passed, passed, ◌>>=◌, ◌>>◌}
-use Rattle.rules.specs.Rings.{Corner}
 use Rattle.rules.specs.Fields.{Field}
 use Rattle.rules.specs.FieldAnswers.{alone, inner_checks, placed, summed, cut, inner_accepted}
 use Rattle.ring_corners.specs.Corners.{pairs, Accepted}
 use Rattle.ring_boxes.specs.Boxes.{Boxed}
+use Rattle.ring_boxes.specs.declared.reach.Reach.{Reach}
 
 -- the rings of a field by their numbers
 unfoldable pub as_field : List (List ℤ) → Field
@@ -28,11 +28,16 @@ the_rest rings rest = do
   inner_accepted (as_field rings) rest
   answered passed
 
--- the rings of a field whose numbers passed the checks of rings, and the boxes of the first one's runs of edges
+-- the rings of a field whose numbers passed the checks of rings
 pub record Checked (counts : List ℕ) (numbers : List ℤ) : Type 0 where
   pub some : 0 < length counts
   pub even : 2 * summed counts ≡ length numbers
   pub good : (k : ℕ) → k < length counts → Accepted (get_or (cut counts numbers) k [])
 
-abbrev pub OuterBoxed : List ℕ → List ℤ → List ℤ → List ℤ → Type 0
-OuterBoxed counts numbers lows highs = Boxed (pairs (get_or (cut counts numbers) 0 [])) (pairs lows) (pairs highs)
+-- the boxes of the outer ring's runs of edges
+abbrev pub OuterBoxed : List ℕ → List ℤ → List Reach → Type 0
+OuterBoxed counts numbers boxes = Boxed (pairs (get_or (cut counts numbers) 0 [])) boxes
+
+-- the numbers of the outer ring
+abbrev pub Outer : List ℕ → List ℤ → List ℤ → Type 0
+Outer counts numbers first = first ≡ get_or (cut counts numbers) 0 []

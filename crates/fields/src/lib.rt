@@ -4,100 +4,58 @@
 #![tactic(auto)]
 
 ghost use Rattle.std.specs.Prelude.{◌≡◌};
-ghost use Rattle.rules.specs.FieldAnswers.{field_read, accept_answer, join_answer, field_nozzle_answer, field_position_answer};
-ghost use Rattle.ring_checks.specs.Refusal.{refusal_of};
-ghost use Rattle.ring_corners.specs.Corners.{corner};
-ghost use Rattle.fields.specs.Answers.{field_paper, field_nozzle_paper};
+ghost use Rattle.rules.specs.FieldAnswers.{accept_answer, join_answer, field_nozzle_answer, field_position_answer};
+ghost use Rattle.rings.specs.Answers.{nozzle_paper};
+ghost use Rattle.fields.specs.Checks.{field_checked};
+ghost use Rattle.terms.specs.Papers.{corner_of, passed_paper};
 
-use rings::CrossingAnswer;
+use crate::field::Field;
+use terms::{Corner, Position, Refusal};
 
 mod counts;
+mod field;
 mod placing;
 mod reading;
 mod standing;
 
-// Accepted; or a crossed ring, with its number, its first pair of edges and the pairs looked at; or the number of a refusal.
-#[derive(Clone, Copy)]
-pub enum FieldAnswer {
-    Accepted,
-    Crossed(u64, u64, u64, u64),
-    Refused(u8),
-}
-
-// Where a nozzle stands; or a refusal, a crossed ring's with its number, its first pair of edges and the pairs looked at.
-#[derive(Clone, Copy)]
-pub enum FieldNozzle {
-    Open,
-    Border,
-    Shut,
-    Crossed(u64, u64, u64, u64),
-    Refused(u8),
-}
-
-// The refusal of a field by its numbers alone: 6, 7 or 8 of a ring, or 16, the first that is met ring by ring; or 0 where it passes. Crossing, 9, and where the rings lie, 15, are not asked.
-pub fn refusal(counts: &[u32], corners: &[i64]) -> u8
-    ensures { result ≡ refusal_of (field_read counts.now corners.now) }
+// Refuses a field by its numbers alone: 6, 7 or 8 of a ring, or 16, the first that is met ring by ring. Crossing, 9, and where the rings lie, 15, are not asked.
+pub fn check(counts: &[u32], corners: &[i64]) -> Result<(), Refusal>
+    ensures { passed_paper result ≡ field_checked counts.now corners.now }
 {
-    if counts::uneven(counts, corners.len()) {
-        return 6;
-    }
-    if counts.len() == 0 {
-        return 6;
-    }
-    reading::first_refusal(counts, corners)
+    let field = Field::of(counts, corners)?;
+    reading::check(&field)
 }
 
 // Whether a ring may join a field that was accepted before: the field is read, and then the ring's own 16, 6, 7, 8, 9 and 15.
-pub fn join(counts: &[u32], corners: &[i64], ring: &[i64]) -> FieldAnswer
-    ensures { field_paper result ≡ join_answer counts.now corners.now ring.now }
+pub fn join(counts: &[u32], corners: &[i64], ring: &[i64]) -> Result<(), Refusal>
+    ensures { passed_paper result ≡ join_answer counts.now corners.now ring.now }
 {
-    let number = refusal(counts, corners);
-    if 0 < number {
-        return FieldAnswer::Refused(number);
-    }
-    placing::join_checked(counts, corners, ring)
+    let field = Field::of(counts, corners)?;
+    reading::check(&field)?;
+    placing::join(&field, ring)
 }
 
 // Whether a field is accepted: ring by ring, the outer one first, its 6, 7, 8 and 9, of an inner ring 15 after these, and 16 before anything is said of the seventeenth.
-pub fn accept(counts: &[u32], corners: &[i64]) -> FieldAnswer
-    ensures { field_paper result ≡ accept_answer counts.now corners.now }
+pub fn accept(counts: &[u32], corners: &[i64]) -> Result<(), Refusal>
+    ensures { passed_paper result ≡ accept_answer counts.now corners.now }
 {
-    if counts::uneven(counts, corners.len()) {
-        return FieldAnswer::Refused(6);
-    }
-    if counts.len() == 0 {
-        return FieldAnswer::Refused(6);
-    }
-    let end = 2 * (counts[0] as usize);
-    match rings::crossing(&corners[0..end]) {
-        CrossingAnswer::Refused(number) => FieldAnswer::Refused(number),
-        CrossingAnswer::Crossed(low, high, looked) => FieldAnswer::Crossed(0, low, high, looked),
-        CrossingAnswer::Clean(_) => placing::accept_inner(counts, corners),
-    }
+    let field = Field::of(counts, corners)?;
+    rings::crossing(field.outer())?;
+    placing::accept_inner(&field)
 }
 
 // Where a point stands to a field, which is accepted first.
-pub fn nozzle(counts: &[u32], corners: &[i64], px: i64, py: i64) -> FieldNozzle
-    ensures { field_nozzle_paper result ≡ field_nozzle_answer counts.now corners.now (corner px py) }
+pub fn nozzle(counts: &[u32], corners: &[i64], p: Corner) -> Result<Position, Refusal>
+    ensures { nozzle_paper result ≡ field_nozzle_answer counts.now corners.now (corner_of p) }
 {
-    match accept(counts, corners) {
-        FieldAnswer::Refused(number) => FieldNozzle::Refused(number),
-        FieldAnswer::Crossed(ring, low, high, looked) => {
-            FieldNozzle::Crossed(ring, low, high, looked)
-        }
-        FieldAnswer::Accepted => position(counts, corners, px, py),
-    }
+    accept(counts, corners)?;
+    position(counts, corners, p)
 }
 
 // Where a point stands to a field that was accepted before: the checks 6, 7 and 8 of each ring are made, and 16; never 9 and 15.
-pub fn position(counts: &[u32], corners: &[i64], px: i64, py: i64) -> FieldNozzle
-    ensures { field_nozzle_paper result ≡ field_position_answer counts.now corners.now (corner px py) }
+pub fn position(counts: &[u32], corners: &[i64], p: Corner) -> Result<Position, Refusal>
+    ensures { nozzle_paper result ≡ field_position_answer counts.now corners.now (corner_of p) }
 {
-    if counts::uneven(counts, corners.len()) {
-        return FieldNozzle::Refused(6);
-    }
-    if counts.len() == 0 {
-        return FieldNozzle::Refused(6);
-    }
-    standing::told(standing::over_rings(counts, corners, px, py))
+    let field = Field::of(counts, corners)?;
+    standing::over_rings(&field, p)
 }

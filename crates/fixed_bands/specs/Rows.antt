@@ -10,7 +10,11 @@ use Rattle.fixed_bands.specs.Polynomials.{reach, multiple, negated, minus}
 use Rattle.fixed_bands.specs.Models.{Model, fine}
 use Rattle.fixed_bands.specs.Traces.{Traces}
 
--- ---- a row of the code is the table's of band i
+-- ---- the numbers of the code's rows, one after another; and a row of the code is the table's of band i
+abbrev pub numbers : List Row → List ℕ
+numbers [] = []
+numbers (r ∷ rs) = r.c0 ∷ r.c1 ∷ r.c2 ∷ r.c3 ∷ r.c4 ∷ r.c5 ∷ numbers rs
+
 pub record RowAt (tab : List ℕ) (i : ℕ) (r : Row) : Type 0 where
   pub is0 : r.c0 ≡ get_or tab (6 * i) 0
   pub is1 : r.c1 ≡ get_or tab (6 * i + 1) 0
@@ -19,6 +23,7 @@ pub record RowAt (tab : List ℕ) (i : ℕ) (r : Row) : Type 0 where
   pub is4 : r.c4 ≡ get_or tab (6 * i + 4) 0
   pub is5 : r.c5 ≡ get_or tab (6 * i + 5) 0
 
+-- a number that is at least k and below k + 1 is k
 pub last : (k n : ℕ) → k ≤ n → n < suc k → n ≡ k
 last k n l h = omega arith
 

@@ -1,20 +1,22 @@
 // Functions of an angle by bands of a quarter of a degree: in each, a polynomial in the ticks from its start. Each function answers the worked number of specs/.
 #![tactic(auto)]
 
-ghost use Rattle.std.specs.Prelude.{◌≡◌, ℕ, ◌+◌, ◌*◌, ◌-◌, ◌/◌, ◌%◌, ◌≤◌, ◌<◌};
-ghost use Rattle.rules.specs.Systems.{GRS_80, Krasovsky};
-ghost use Rattle.fixed.specs.Worked.{S60, P30};
-ghost use Rattle.fixed_bands.specs.Worked.{width, part30, rise, sink, latitude_sine, latitude_cosine, longitude_sine, longitude_cosine, K60};
+ghost use Rattle.std.specs.Prelude.{◌≡◌, ◌+◌, ◌*◌, ◌-◌, ◌/◌, ◌%◌, ◌≤◌, ◌<◌};
+ghost use Rattle.terms.specs.Papers.{ellipsoid_of};
+ghost use Rattle.fixed.specs.Worked.{S60};
+ghost use Rattle.fixed_bands.specs.Worked.{width, part30, rise, sink, latitude_sine, latitude_cosine, longitude_sine, longitude_cosine, shortfall_table, K60};
 ghost use Rattle.fixed_bands.specs.Traces.{Part30};
-ghost use Rattle.fixed_bands.specs.Rows.{Rises, Sinks};
+ghost use Rattle.fixed_bands.specs.Rows.{RowAt, numbers, Rises, Sinks};
 ghost use Rattle.fixed_bands.specs.Bands.{LatitudeSizes, LongitudeSizes};
 
-pub mod latitude_cosine;
-pub mod latitude_sine;
-pub mod longitude_cosine;
-pub mod longitude_sine;
-pub mod shortfall_grs80;
-pub mod shortfall_krasovsky;
+mod latitude_cosine;
+mod latitude_sine;
+mod longitude_cosine;
+mod longitude_sine;
+mod shortfall_grs80;
+mod shortfall_krasovsky;
+
+use terms::Ellipsoid;
 
 // The coefficients of a band's polynomial, without their signs.
 #[derive(Clone, Copy)]
@@ -25,6 +27,14 @@ pub struct Row {
     pub c3: u64,
     pub c4: u64,
     pub c5: u64,
+}
+
+// The row of a band.
+fn row_of(rows: &[Row; 32], band: u64) -> Row
+    requires { band < 32 }
+    ensures { RowAt (numbers rows.now) band result }
+{
+    rows[band as usize]
 }
 
 // s·h / 2^30.
@@ -67,6 +77,7 @@ pub struct SineCosine {
 }
 
 // The sine and cosine of a latitude of n ticks, from 48 to 56 degrees.
+// The range of n stands in four contracts as it is: a type of this one number would be made where the same range is asked, and say no more.
 pub fn latitude60(n: u64) -> SineCosine
     requires { (172800000000 ≤ n) × (n ≤ 201600000000) }
     ensures sine_value { (result.sine ≡ latitude_sine n) × (result.cosine ≡ latitude_cosine n) }
@@ -75,8 +86,8 @@ pub fn latitude60(n: u64) -> SineCosine
     let m = n - 172800000000;
     let band = m / 900000001;
     let h = m % 900000001;
-    let sine = rise60(latitude_sine::row(band), h);
-    let cosine = sink60(latitude_cosine::row(band), h);
+    let sine = rise60(row_of(&latitude_sine::ROWS, band), h);
+    let cosine = sink60(row_of(&latitude_cosine::ROWS, band), h);
     SineCosine { sine, cosine }
 }
 
@@ -88,27 +99,29 @@ pub fn longitude60(d: u64) -> SineCosine
 {
     let band = d / 900000001;
     let h = d % 900000001;
-    let sine = rise60(longitude_sine::row(band), h);
-    let cosine = sink60(longitude_cosine::row(band), h);
+    let sine = rise60(row_of(&longitude_sine::ROWS, band), h);
+    let cosine = sink60(row_of(&longitude_cosine::ROWS, band), h);
     SineCosine { sine, cosine }
 }
 
-// K of a latitude of n ticks on GRS-80.
-pub fn k60_grs80(n: u64) -> u64
-    requires { (172800000000 ≤ n) × (n ≤ 201600000000) }
-    ensures { result ≡ K60 GRS_80 n }
+// What K is short of 1 on an ellipsoid: its row of the band.
+fn shortfall_row(ellipsoid: Ellipsoid, band: u64) -> Row
+    requires { band < 32 }
+    ensures { RowAt (shortfall_table (ellipsoid_of ellipsoid)) band result }
 {
-    let m = n - 172800000000;
-    let row = shortfall_grs80::row(m / 900000001);
-    1152921504606846976 - rise60(row, m % 900000001)
+    match ellipsoid {
+        Ellipsoid::Grs80 => row_of(&shortfall_grs80::ROWS, band),
+        Ellipsoid::Krasovsky => row_of(&shortfall_krasovsky::ROWS, band),
+    }
 }
 
-// K of a latitude of n ticks on Krasovsky's ellipsoid.
-pub fn k60_krasovsky(n: u64) -> u64
+// K of a latitude of n ticks.
+pub fn k60(ellipsoid: Ellipsoid, n: u64) -> u64
     requires { (172800000000 ≤ n) × (n ≤ 201600000000) }
-    ensures { result ≡ K60 Krasovsky n }
+    ensures value { result ≡ K60 (ellipsoid_of ellipsoid) n }
+    ensures size { (994 * S60 / 1000 ≤ result) × (result ≤ S60) }
 {
     let m = n - 172800000000;
-    let row = shortfall_krasovsky::row(m / 900000001);
+    let row = shortfall_row(ellipsoid, m / 900000001);
     1152921504606846976 - rise60(row, m % 900000001)
 }

@@ -1,11 +1,6 @@
 -- The ellipsoids' constants as the code has them, in units of 2^-30 m. Assumes nothing.
-use Rattle.std.specs.Prelude.{Bool, true, false, ℕ, ◌*◌, ◌/◌, ◌^◌, ◌≤◌, ◌-ℤ◌}
+use Rattle.std.specs.Prelude.{ℕ, ◌*◌, ◌/◌, ◌^◌, ◌≤◌, ◌-ℤ◌}
 use Rattle.rules.specs.Systems.{◌/10^◌, Ellipsoid, GRS_80, Krasovsky}
-
--- the ellipsoid of a flag, which is set for Krasovsky
-abbrev pub which : Bool → Ellipsoid
-which true = Krasovsky
-which false = GRS_80
 
 -- R0, and R0 times 52° less 5,760,000 m
 unfoldable pub radius30 : Ellipsoid → ℕ

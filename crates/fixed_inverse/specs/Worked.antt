@@ -6,11 +6,6 @@ use Rattle.rules.specs.Systems.{Ellipsoid, GRS_80, Krasovsky}
 use Rattle.fixed.specs.Worked.{mul60, quot60, odd_alt60, odd_ser60, even_alt60, even_ser60, tilt60, tilt_south}
 use Rattle.fixed.specs.Tables.{sine_table, cosine_table, small_sine_table, small_cosine_table, arctan_table}
 
--- the ellipsoid that a function is called for
-abbrev pub ellipsoid : Bool → Ellipsoid
-ellipsoid true = Krasovsky
-ellipsoid false = GRS_80
-
 -- ---- a length over R0: 2^82 / R0, to the nearest unit, times the length and 2^8
 unfoldable pub over_radius : Ellipsoid → ℕ
 over_radius GRS_80 = 759441209148909116

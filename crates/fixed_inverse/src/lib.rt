@@ -2,29 +2,34 @@
 // these are to the definition's is proofs/Laws/Inverse.antt. Lengths are whole numbers of 2^-30 m. y is a size: the caller puts the sign on d.
 #![tactic(auto)]
 
-ghost use Rattle.std.specs.Prelude.{◌≡◌, ℕ, ◌+◌, ◌*◌, ◌/◌, ◌^◌, ◌<◌, ◌≤◌};
+ghost use Rattle.std.specs.Prelude.{◌≡◌, ◌+◌, ◌*◌, ◌/◌, ◌^◌, ◌<◌, ◌≤◌};
+ghost use Rattle.terms.specs.Papers.{ellipsoid_of};
 ghost use Rattle.fixed.specs.Worked.{S60};
-ghost use Rattle.fixed_inverse.specs.Worked.{ellipsoid, angle60, difference60, closer60, root60, sphere60, latitude60, nearest_even, ticks60, latitude_ticks, difference_ticks};
+ghost use Rattle.fixed_inverse.specs.Worked.{angle60, difference60, closer60, root60, sphere60, latitude60, nearest_even, ticks60, latitude_ticks, difference_ticks};
 ghost use Rattle.fixed_inverse.specs.Laws.Radius.{x_low, x_high, y_high, p_low, p_high, q_high};
 ghost use Rattle.fixed_inverse.specs.Laws.Turns.{sine_low, sine_high, cosh_high, difference_high};
 ghost use Rattle.fixed_inverse.specs.Laws.Roots.{w_low, w_high, root_least, root_most};
 ghost use Rattle.fixed_inverse.specs.Laws.About52.{f_low, f_high};
 
-use fixed::{even_alt60, even_ser60, mul60, odd_alt60, odd_ser60, quot60, tilt60};
+use fixed::{
+    RECIPROCALS, arctan60, even_alt60, even_ser60, mul60, odd_alt60, odd_ser60, quot60, tilt60,
+};
+use terms::Ellipsoid;
 
 // A length over R0 of the ellipsoid; the constants are 2^82 / R0.
-pub fn angle60(krasovsky: bool, x: u64) -> u64
+#[tactic(auto, unfolding(crate::specs::Worked::angle60, crate::specs::Worked::over_radius))]
+pub fn angle60(ellipsoid: Ellipsoid, x: u64) -> u64
     requires { x ≤ x_high }
-    ensures { result ≡ angle60 (ellipsoid krasovsky) x }
+    ensures { result ≡ angle60 (ellipsoid_of ellipsoid) x }
 {
-    if krasovsky {
-        mul60(759428167143141240, x * 256)
-    } else {
-        mul60(759441209148909116, x * 256)
-    }
+    let over_radius = match ellipsoid {
+        Ellipsoid::Grs80 => 759441209148909116,
+        Ellipsoid::Krasovsky => 759428167143141240,
+    };
+    mul60(over_radius, x * 256)
 }
 
-// 1 / (2k+1)!
+// 1 / (2k+1)!, of which a hyperbolic sine of q takes those as far as 1/7!
 const SIN: [u64; 9] = [
     1152921504606846976,
     192153584101141163,
@@ -37,7 +42,7 @@ const SIN: [u64; 9] = [
     3241,
 ];
 
-// 1 / (2k)!
+// 1 / (2k)!, of which a hyperbolic cosine of q takes those as far as 1/8!
 const COS: [u64; 9] = [
     1152921504606846976,
     576460752303423488,
@@ -50,56 +55,21 @@ const COS: [u64; 9] = [
     55104,
 ];
 
-// as far as 1/7! and 1/8!, for q, whose hyperbolic sine and cosine they serve
-const SMALL_SIN: [u64; 4] = [
-    1152921504606846976,
-    192153584101141163,
-    9607679205057058,
-    228754266787073,
-];
-
-const SMALL_COS: [u64; 5] = [
-    1152921504606846976,
-    576460752303423488,
-    48038396025285291,
-    1601279867509510,
-    28594283348384,
-];
-
-// 1 / (2k+1), for an angle up to 0.1, and up to 0.122
-const ARCTAN: [u64; 6] = [
-    1152921504606846976,
-    384307168202282325,
-    230584300921369395,
-    164703072086692425,
-    128102389400760775,
-    104811045873349725,
-];
-
-const WIDE_ARCTAN: [u64; 8] = [
-    1152921504606846976,
-    384307168202282325,
-    230584300921369395,
-    164703072086692425,
-    128102389400760775,
-    104811045873349725,
-    88686269585142075,
-    76861433640456465,
-];
-
 // The longitude difference d, of tan d = sinh q / cos p.
+#[tactic(auto, unfolding(crate::specs::Worked::difference60))]
 pub fn difference60(p: u64, q: u64) -> u64
     requires { (p_low ≤ p) × (p ≤ p_high) × (q ≤ q_high) }
     ensures value { result ≡ difference60 p q }
     ensures size { result ≤ difference_high }
 {
-    let s = odd_ser60(&SMALL_SIN, q);
+    let s = odd_ser60(&SIN[..4], q);
     let c = even_alt60(&COS, p);
     let t = quot60(s, c);
-    odd_alt60(&WIDE_ARCTAN, t)
+    odd_alt60(&RECIPROCALS, t)
 }
 
 // One step of Heron: half of s + w / s.
+#[tactic(auto, unfolding(crate::specs::Worked::closer60))]
 pub fn closer60(w: u64, s: u64) -> u64
     requires { (S60 / 2 ≤ s) × (s ≤ S60) × (w ≤ w_high) }
     ensures { result ≡ closer60 w s }
@@ -130,7 +100,7 @@ pub fn sphere60(s: u64, c: u64) -> u64
     let w = mul60(c - s, c + s);
     let m = root60(w);
     let t = tilt60(s, m);
-    let a = odd_alt60(&ARCTAN, t.size);
+    let a = arctan60(t.size);
     if t.south {
         1046358366166695522 - a
     } else {
@@ -139,7 +109,7 @@ pub fn sphere60(s: u64, c: u64) -> u64
 }
 
 // (2 c2 4^k + 4 c4 16^k + 6 c6 36^k) / (2k+1)!, GRS-80 and Krasovsky
-const LATITUDE_G: [u64; 13] = [
+const LATITUDE_GRS80: [u64; 13] = [
     7770110264294487,
     5241339384737898,
     1097931621742114,
@@ -155,7 +125,7 @@ const LATITUDE_G: [u64; 13] = [
     37840,
 ];
 
-const LATITUDE_K: [u64; 13] = [
+const LATITUDE_KRASOVSKY: [u64; 13] = [
     7768990362000604,
     5240575100159774,
     1097764337996884,
@@ -172,15 +142,15 @@ const LATITUDE_K: [u64; 13] = [
 ];
 
 // B = f + c2 sin 2f + c4 sin 4f + c6 sin 6f, as one series in f.
-pub fn latitude60(krasovsky: bool, f: u64) -> u64
+#[tactic(auto, unfolding(crate::specs::Worked::latitude60, crate::specs::Worked::latitude_table))]
+pub fn latitude60(ellipsoid: Ellipsoid, f: u64) -> u64
     requires { f ≤ f_high }
-    ensures value { result ≡ latitude60 (ellipsoid krasovsky) f }
+    ensures value { result ≡ latitude60 (ellipsoid_of ellipsoid) f }
     ensures size { result ≤ 2 * S60 }
 {
-    if krasovsky {
-        f + odd_alt60(&LATITUDE_K, f)
-    } else {
-        f + odd_alt60(&LATITUDE_G, f)
+    match ellipsoid {
+        Ellipsoid::Grs80 => f + odd_alt60(&LATITUDE_GRS80, f),
+        Ellipsoid::Krasovsky => f + odd_alt60(&LATITUDE_KRASOVSKY, f),
     }
 }
 
@@ -200,6 +170,7 @@ pub fn nearest_even(n: u64, d: u64) -> u64
 }
 
 // An angle in whole ticks; the constant is 648,000,000,000 / pi * 2^22.
+#[tactic(auto, unfolding(crate::specs::Worked::ticks60))]
 pub fn ticks60(b: u64) -> u64
     requires { b ≤ 2 * S60 }
     ensures value { result ≡ ticks60 b }
@@ -216,17 +187,17 @@ pub struct Ticks {
 }
 
 // From Mercator's x and the size of y, of the box that refusal 4 leaves.
-pub fn inverse60(krasovsky: bool, x: u64, y: u64) -> Ticks
+pub fn inverse60(ellipsoid: Ellipsoid, x: u64, y: u64) -> Ticks
     requires { (x_low ≤ x) × (x ≤ x_high) × (y ≤ y_high) }
-    ensures latitude_value { (result.latitude ≡ latitude_ticks (ellipsoid krasovsky) x y) × (result.difference ≡ difference_ticks (ellipsoid krasovsky) x y) }
+    ensures latitude_value { (result.latitude ≡ latitude_ticks (ellipsoid_of ellipsoid) x y) × (result.difference ≡ difference_ticks (ellipsoid_of ellipsoid) x y) }
     ensures size { (result.latitude ≤ 2 ^ 39) × (result.difference ≤ 2 ^ 39) }
 {
-    let p = angle60(krasovsky, x);
-    let q = angle60(krasovsky, y);
+    let p = angle60(ellipsoid, x);
+    let q = angle60(ellipsoid, y);
     let s = odd_alt60(&SIN, p);
-    let c = even_ser60(&SMALL_COS, q);
+    let c = even_ser60(&COS[..5], q);
     let f = sphere60(s, c);
-    let latitude = ticks60(latitude60(krasovsky, f));
+    let latitude = ticks60(latitude60(ellipsoid, f));
     let difference = ticks60(difference60(p, q));
     Ticks {
         latitude,

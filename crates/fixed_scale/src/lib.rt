@@ -2,18 +2,18 @@
 // answers the worked number of specs/.
 #![tactic(auto)]
 
-ghost use Rattle.std.specs.Prelude.{◌≡◌, Bool, ℕ, ◌+◌, ◌*◌, ◌-◌, ◌/◌, ◌≤◌, ℤ, pos, ◌-ℤ◌};
+ghost use Rattle.std.specs.Prelude.{◌≡◌, ◌+◌, ◌*◌, ◌-◌, ◌/◌, ◌≤◌};
+ghost use Rattle.terms.specs.Papers.{ellipsoid_of};
 ghost use Rattle.fixed.specs.Worked.{S60, mul60};
-ghost use Rattle.fixed.specs.Nearness.{turned};
-ghost use Rattle.fixed_forward.specs.Ellipsoids.{which};
 ghost use Rattle.fixed_forward.specs.Points.{SphereSizes};
 ghost use Rattle.fixed_scale.specs.Root.{root60};
 ghost use Rattle.fixed_scale.specs.Scale.{square60, ratio60, meridian60, spread60, sphere_scale60};
 ghost use Rattle.fixed_scale.specs.Length.{length60};
 ghost use Rattle.fixed_scale.specs.Convergence.{sine_f60, turn60, convergence60};
 
-use fixed::{mul60, odd_alt60, quot60, ser60};
+use fixed::{RECIPROCALS, arctan60, mul60, odd_alt60, quot60, ser60, turned};
 use fixed_forward::Spherical;
+use terms::Ellipsoid;
 
 const ROOT: [u64; 4] = [
     576460752303423488,
@@ -21,17 +21,6 @@ const ROOT: [u64; 4] = [
     72057594037927936,
     45035996273704960,
 ];
-
-const ARCTAN: [u64; 6] = [
-    1152921504606846976,
-    384307168202282325,
-    230584300921369395,
-    164703072086692425,
-    128102389400760775,
-    104811045873349725,
-];
-
-const SLOPE: [u64; 2] = [1152921504606846976, 384307168202282325];
 
 // The root of 1 - x, of a small number x.
 pub fn root60(x: u64) -> u64
@@ -48,28 +37,29 @@ pub fn root60(x: u64) -> u64
 pub struct Shape {
     pub square: u64,
     pub ratio: u64,
+    pub ghost small: { (square ≤ 7 * S60 / 1000) × (ratio ≤ S60) },
 }
 
-pub fn shape60(krasovsky: bool) -> Shape
-    ensures square_value { (result.square ≡ square60 (which krasovsky)) × (result.ratio ≡ ratio60 (which krasovsky)) }
-    ensures size { (result.square ≤ 7 * S60 / 1000) × (result.ratio ≤ S60) }
+#[tactic(auto, unfolding(crate::specs::Scale::square60, crate::specs::Scale::ratio60))]
+pub fn shape60(ellipsoid: Ellipsoid) -> Shape
+    ensures square_value { (result.square ≡ square60 (ellipsoid_of ellipsoid)) × (result.ratio ≡ ratio60 (ellipsoid_of ellipsoid)) }
 {
-    if krasovsky {
-        Shape {
-            square: 7716989728512023,
-            ratio: 1150989829159782655,
-        }
-    } else {
-        Shape {
+    match ellipsoid {
+        Ellipsoid::Grs80 => Shape {
             square: 7718094688409816,
             ratio: 1150989552223460208,
-        }
+        },
+        Ellipsoid::Krasovsky => Shape {
+            square: 7716989728512023,
+            ratio: 1150989829159782655,
+        },
     }
 }
 
 // R0·cos f / (N·cos B) times 1 / √(1 - cos²f·sin²d).
+#[tactic(auto, unfolding(crate::specs::Scale::sphere_scale60, crate::specs::Scale::meridian60, crate::specs::Scale::spread60))]
 pub fn sphere_scale60(k: Shape, s: Spherical, across: u64) -> u64
-    requires { (k.square ≤ 7 * S60 / 1000) × (k.ratio ≤ S60) × SphereSizes s × (across ≤ 11 * S60 / 100) }
+    requires { SphereSizes s × (across ≤ 11 * S60 / 100) }
     ensures value { result ≡ sphere_scale60 k.ratio s.k (meridian60 k.square s.t) s.d2 (spread60 across) }
     ensures size { result ≤ 5 * S60 / 4 }
 {
@@ -85,6 +75,7 @@ pub fn sphere_scale60(k: Shape, s: Spherical, across: u64) -> u64
 }
 
 // The derivative's length times 0.000002, of its first part times that and its slope.
+#[tactic(auto, unfolding(crate::specs::Length::length60))]
 pub fn length60(first: u64, slope: u64) -> u64
     requires { (first ≤ 101 * S60 / 100) × (slope ≤ 30 * S60 / 100000) }
     ensures value { result ≡ length60 first slope }
@@ -95,6 +86,7 @@ pub fn length60(first: u64, slope: u64) -> u64
 }
 
 // The arc tangent of sin f·tan d.
+#[tactic(auto, unfolding(crate::specs::Convergence::turn60, crate::specs::Convergence::sine_f60))]
 pub fn turn60(s: Spherical) -> u64
     requires { SphereSizes s }
     ensures value { result ≡ turn60 (sine_f60 s.n2 s.d2) s.sd s.cd }
@@ -103,33 +95,22 @@ pub fn turn60(s: Spherical) -> u64
     let f = quot60(s.n2, s.d2);
     let a = mul60(s.sd, f);
     let v = quot60(a, s.cd);
-    odd_alt60(&ARCTAN, v)
-}
-
-// turn - r, or turn + r where the flag is set.
-fn less60(turn: u64, back: bool, r: u64) -> i64
-    requires { (turn ≤ S60 / 4) × (r ≤ S60 / 4) }
-    ensures { result ≡ pos turn -ℤ turned back (pos r) }
-{
-    if back {
-        (turn + r) as i64
-    } else {
-        turn as i64 - r as i64
-    }
+    arctan60(v)
 }
 
 // The convergence of a point to the east: `turn` less the derivative's direction, which is its slope's arc tangent, or its opposite where the flag is set.
+#[tactic(auto, unfolding(crate::specs::Convergence::convergence60))]
 pub fn convergence60(turn: u64, back: bool, slope: u64) -> i64
     requires { (turn ≤ S60 / 4) × (slope ≤ 30 * S60 / 100000) }
     ensures { result ≡ convergence60 turn back slope }
 {
-    let r = odd_alt60(&SLOPE, slope);
-    less60(turn, back, r)
+    let r = odd_alt60(&RECIPROCALS[..2], slope);
+    turn as i64 - turned(back, r)
 }
 
 // The scale, of a point's sphere and cos f·sin d, and of the derivative's first part times 0.000002 and its slope.
 pub fn scale60(k: Shape, s: Spherical, across: u64, first: u64, slope: u64) -> u64
-    requires { (k.square ≤ 7 * S60 / 1000) × (k.ratio ≤ S60) × SphereSizes s × (across ≤ 11 * S60 / 100) × (first ≤ 101 * S60 / 100) × (slope ≤ 30 * S60 / 100000) }
+    requires { SphereSizes s × (across ≤ 11 * S60 / 100) × (first ≤ 101 * S60 / 100) × (slope ≤ 30 * S60 / 100000) }
     ensures value { result ≡ mul60 (sphere_scale60 k.ratio s.k (meridian60 k.square s.t) s.d2 (spread60 across)) (length60 first slope) }
     ensures size { result ≤ 13 * S60 / 10 }
 {

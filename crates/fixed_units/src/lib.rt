@@ -2,12 +2,12 @@
 // ties to even. Each function answers the worked number of specs/Worked.antt.
 #![tactic(auto)]
 
-ghost use Rattle.std.specs.Prelude.{◌≡◌, ℕ, ◌*◌, ◌/◌, ◌^◌, ◌≤◌, ℤ, nat_abs};
+ghost use Rattle.std.specs.Prelude.{◌≡◌, ◌*◌, ◌/◌, ◌^◌, ◌≤◌, nat_abs};
 ghost use Rattle.rules.specs.Units.{units_in_scale};
 ghost use Rattle.fixed.specs.Worked.{S60};
 ghost use Rattle.fixed_units.specs.Worked.{scale_units, angle_units, convergence_units};
 
-use fixed::mul60;
+use fixed::{mul60, turned};
 use fixed_inverse::nearest_even;
 
 // A scale times m0 in whole units of 10^-9, by the halves of its bits. m0 comes in those units and takes the place of 10^9, so it costs no rounding of its own.
@@ -22,6 +22,7 @@ pub fn scale_units(sc: u64, m0: u64) -> u64
 }
 
 // The size of an angle in whole thousandths of an arc second; the constant is 648,000,000 / pi * 2^32.
+#[tactic(auto, unfolding(crate::specs::Worked::angle_units))]
 pub fn angle_units(a: u64) -> u64
     requires { a ≤ S60 / 2 }
     ensures value { result ≡ angle_units a }
@@ -31,15 +32,11 @@ pub fn angle_units(a: u64) -> u64
 }
 
 // A convergence in whole thousandths of an arc second, with its sign.
+#[tactic(auto, unfolding(crate::specs::Worked::convergence_units))]
 pub fn convergence_units(g: i64) -> i64
     requires { nat_abs g ≤ S60 / 2 }
     ensures value { result ≡ convergence_units g }
     ensures size { nat_abs result ≤ 10 ^ 9 }
 {
-    if g < 0 {
-        let west = angle_units((0 - g) as u64);
-        return 0 - west as i64;
-    }
-    let east = angle_units(g as u64);
-    east as i64
+    turned(g < 0, angle_units(g.unsigned_abs()))
 }

@@ -2,10 +2,8 @@
 // for each code: how many points were answered, lie outside the band or were refused, and the largest distances in thousandths of a unit.
 #![tactic(auto)]
 
-use projection::InverseAnswer;
 use std::io;
-use std::io::Read;
-use vectors::{Groups, Outcome};
+use vectors::Outcome;
 
 fn outcome_of(record: &[u8]) -> Outcome {
     let answer = projection::inverse(
@@ -14,32 +12,11 @@ fn outcome_of(record: &[u8]) -> Outcome {
         vectors::nth_number(record, 2),
     );
     match answer {
-        InverseAnswer::Ticks(b, l) => vectors::outcome_of_two(record, b, l),
-        InverseAnswer::Refused(refusal) => Outcome::Refused(refusal as u64),
+        Ok(place) => Ok(vectors::distances(record, [place.latitude, place.longitude, 0, 0])),
+        Err(refusal) => Err(refusal.number() as u64),
     }
-}
-
-// The run with the next record, or `None` where the input ends.
-fn one_record<R: Read>(
-    rt: &impl Print,
-    input: &mut R,
-    groups: Groups,
-) -> io::Result<Option<Groups>> {
-    let Some(record) = vectors::read_record::<64, R>(input)? else {
-        return Ok(None);
-    };
-    let outcome = outcome_of(&record);
-    Ok(Some(groups.with(rt, b"inverse", &record, outcome)?))
 }
 
 fn main(rt: HostRuntime) -> io::Result<()> {
-    let mut input = rt.reader();
-    let mut groups = Groups::new(vectors::TICK_BAND);
-    for _ in 0..1000000u64 {
-        match one_record(&rt, &mut input, groups)? {
-            Some(more) => groups = more,
-            None => return groups.close(&rt, b"inverse"),
-        }
-    }
-    Ok(())
+    vectors::hold_records(&rt, "inverse", vectors::TICK_BAND, outcome_of)
 }

@@ -4,10 +4,14 @@ use Rattle.rules.specs.Refusals as rules
 use Rattle.rules.specs.Refusals.{refused, crossed_at, body_cut_off}
 use Rattle.rules.specs.Fields as fields
 use Rattle.rules.specs.JobFile.{State, Step, ending}
-use Rattle.projection.specs.Worked.{worked_forward}
+use Rattle.projection_worked.specs.Worked.{worked_forward}
 use Rattle.records.specs.declared.Record as records
 use Rattle.lines.specs.declared.Line.{Line}
 use Rattle.lines.specs.Said.{said, pasted}
+use Rattle.terms.specs.declared.refusals.Refusal.{Refusal}
+use Rattle.terms.specs.declared.refusals.Refusal.TheVariants as refusal_case
+use Rattle.terms.specs.Papers.{refusal_paper}
+use Rattle.job_state.proofs.Refusals.{by_refusal}
 use Rattle.job_state.specs.declared.state.Answer as answers
 use Rattle.job_state.specs.declared.state.Answer.TheVariants as case
 use Rattle.job_state.specs.declared.state.Phase as phases
@@ -25,6 +29,24 @@ use Rattle.job.specs.Passages.{run_of, answered_at}
 pub said_short : (l : Line) → l.count ≤ 128 → length (said l) ≤ 128
 said_short l h = simp length-take (omega arith)
 
+refused_line : (r : Refusal) (offset count size : ℕ) → (advanced offset count size (refusal_paper r)).printed ≡ printed_at (case.Refused r) offset
+unfolding advanced
+refused_line refusal_case.CodeUnknown offset count size = refl
+refused_line refusal_case.LatitudeOutside offset count size = refl
+refused_line refusal_case.LongitudeOutside offset count size = refl
+refused_line refusal_case.PlaneOutside offset count size = refl
+refused_line refusal_case.EllipsoidsDiffer offset count size = refl
+refused_line refusal_case.CornerCount offset count size = refl
+refused_line refusal_case.CornerNumber offset count size = refl
+refused_line refusal_case.SpanTooLarge offset count size = refl
+refused_line (refusal_case.RingCrossed pair) offset count size = refl
+refused_line refusal_case.KindUnknown offset count size = refl
+refused_line refusal_case.BodyCutOff offset count size = refl
+refused_line refusal_case.OutOfPlace offset count size = refl
+refused_line refusal_case.OutputTooShort offset count size = refl
+refused_line refusal_case.BadlyPlaced offset count size = refl
+refused_line refusal_case.TooManyRings offset count size = refl
+
 module _ (offset count size : ℕ) where
   line_is : (a : answers.Answer) (s : State) → (advanced offset count size (paper a s)).printed ≡ printed_at a offset
   unfolding advanced
@@ -33,8 +55,7 @@ module _ (offset count size : ℕ) where
   line_is (case.Inner l n k) s = refl
   line_is (case.Nozzle X Y p) s = refl
   line_is (case.Point X Y k c) s = refl
-  line_is (case.Refused n) s = refl
-  line_is (case.Crossed k i j looked) s = refl
+  line_is (case.Refused r) s = refused_line r offset count size
 
   next_is : (a : answers.Answer) (s : State)
       → progress_by (refuses a) s ((offset + size) % 2 ^ 64) ((count + 1) % 2 ^ 64) [] ≡ (advanced offset count size (paper a s)).next
@@ -44,8 +65,7 @@ module _ (offset count size : ℕ) where
   next_is (case.Inner l n k) s = refl
   next_is (case.Nozzle X Y p) s = refl
   next_is (case.Point X Y k c) s = refl
-  next_is (case.Refused n) s = refl
-  next_is (case.Crossed k i j looked) s = refl
+  next_is (case.Refused r) s = by_refusal r (λ a. stopped ≡ (advanced offset count size a).next) (λ n. refl) (λ pair. refl)
 
 -- the answer tells whether the record is refused
 refuses_is : (a : answers.Answer) (s : State) → refuses a ≡ is_refused (paper a s)
@@ -54,8 +74,7 @@ refuses_is (case.Field c n k) s = refl
 refuses_is (case.Inner l n k) s = refl
 refuses_is (case.Nozzle X Y p) s = refl
 refuses_is (case.Point X Y k c) s = refl
-refuses_is (case.Refused n) s = refl
-refuses_is (case.Crossed k i j looked) s = refl
+refuses_is (case.Refused r) s = by_refusal r (λ a. true ≡ is_refused a) (λ n. refl) (λ pair. refl)
 
 -- a record of `size` bytes that was answered `a`, from one job to another: what is printed, how far the run is then, and the run
 module _ (p : Passage) (size : ℕ) (i : records.Record) (j : Job) {j' : Job} {a : answers.Answer}

@@ -1,13 +1,14 @@
 -- The bytes of the record that is begun: one more, and how many there can be while its body is cut off. Assumes nothing.
-use Rattle.std.proofs.Common.{◌≡◌, ℕ, ◌+◌, ◌-◌, ◌≤◌, Bool, true, false, ltb, List, [], ◌∷◌, ◌++◌, length, take, set, refl, ap, ◌∙◌, add-one, arith, take-suc-set, ltb-false, ltb-true, le-ltb}
+use Rattle.std.proofs.Common.{◌≡◌, ℕ, ◌+◌, ◌≤◌, Bool, true, false, ltb, List, [], ◌∷◌, ◌++◌, length, take, set, refl, ap, ◌∙◌, Some, None, Ok, Err, add-one, arith, take-suc-set, ltb-false, ltb-true, le-ltb}
 use Rattle.rules.specs.Refusals.{Answer, body_cut_off, kind_unknown}
 use Rattle.rules.specs.JobFile.{Row}
-use Rattle.records.specs.declared.Record as code
-use Rattle.records.specs.declared.Cursor as cursors
-use Rattle.records.specs.declared.Read as reader
-use Rattle.records.specs.declared.Read.TheVariants.{Whole, Refused, End}
+use Rattle.terms.specs.declared.refusals.Refusal.{Refusal}
+use Rattle.terms.specs.declared.refusals.Refusal.TheVariants as refusal_case
+use Rattle.terms.specs.Numbers.{number_of}
+use Rattle.records.specs.declared.Whole.{Whole}
+use Rattle.records.specs.declared.Stopped.{Stopped}
 use Rattle.records.specs.Laws.Kinds.{Found, here, nowhere, found}
-use Rattle.records.specs.Reader.{parsed, framed, read_at}
+use Rattle.records.specs.Reader.{parsed, Reading, framed, read_at}
 use Rattle.job_state.specs.Gathered.{chosen}
 use Rattle.job.specs.declared.run.Held.{Held}
 use Rattle.job.specs.Machine.{settled, held_of}
@@ -32,29 +33,54 @@ pub with_is : (h : Held) (n b : ℕ) → n ≡ settled h.count → ◌≡◌ {A 
 with_is h n b e = ap (λ (k : ℕ). record { bytes = set h.bytes k b; count = k + 1 }) e
 
 -- ---- a body that is cut off has at most 16 bytes, so its record at most 17
-cut_short : (p : ℕ) (rest : List ℕ) {a : Answer Row} → Found a → framed 0 rest a ≡ Refused body_cut_off p → length rest ≤ 16
-cut_short p rest nowhere e = absurd (let z : ◌≡◌ {A = ℕ} kind_unknown body_cut_off = cc in omega arith)
-cut_short p rest (here k h) e = go (ltb (length rest) k.body_length) refl (parsed k.kind (take k.body_length rest)) (record { at = 0 + 1 + k.body_length }) e
-  where
-    go : (b : Bool) → ltb (length rest) k.body_length ≡ b → (r : code.Record) (c : cursors.Cursor)
-        → ◌≡◌ {A = reader.Read} (elim b [ true ↦ Refused body_cut_off 0 | false ↦ Whole r c ]) (Refused body_cut_off p) → length rest ≤ 16
-    go true e r c f = let l = ltb-true (length rest) k.body_length e in omega arith
-    go false e r c f = absurd (let z : ◌≡◌ {A = ℕ} 0 1 = cc in omega arith)
+pub other_number : (r : Refusal) → (r ≡ refusal_case.BodyCutOff → ⊥) → number_of r ≡ body_cut_off → ⊥
+other_number refusal_case.CodeUnknown n e = omega arith
+other_number refusal_case.LatitudeOutside n e = omega arith
+other_number refusal_case.LongitudeOutside n e = omega arith
+other_number refusal_case.PlaneOutside n e = omega arith
+other_number refusal_case.EllipsoidsDiffer n e = omega arith
+other_number refusal_case.CornerCount n e = omega arith
+other_number refusal_case.CornerNumber n e = omega arith
+other_number refusal_case.SpanTooLarge n e = omega arith
+other_number (refusal_case.RingCrossed pair) n e = omega arith
+other_number refusal_case.KindUnknown n e = omega arith
+other_number refusal_case.BodyCutOff n e = n refl
+other_number refusal_case.OutOfPlace n e = omega arith
+other_number refusal_case.OutputTooShort n e = omega arith
+other_number refusal_case.BadlyPlaced n e = omega arith
+other_number refusal_case.TooManyRings n e = omega arith
 
-pub cut_held : (l : List ℕ) (p : ℕ) → read_at l 0 ≡ Refused body_cut_off p → length l ≤ 17
+told : Reading → ℕ
+told (Ok found) = 0
+told (Err why) = number_of why.refusal
+
+cut_short : (rest : List ℕ) {a : Answer Row} {why : Stopped} → Found a → framed 0 rest a ≡ Err why → why.refusal ≡ refusal_case.BodyCutOff → length rest ≤ 16
+unfolding told
+cut_short rest nowhere e f = let n : kind_unknown ≡ body_cut_off = ap told e ∙ ap number_of f in absurd (omega arith)
+cut_short rest {why = why} (here k h) e f =
+    go (ltb (length rest) k.body_length) refl (record { item = parsed k.kind (take k.body_length rest); next = record { at = 0 + 1 + k.body_length } }) e
+  where
+    go : (b : Bool) → ltb (length rest) k.body_length ≡ b → (whole : Whole)
+        → ◌≡◌ {A = Reading} (elim b [ true ↦ Err (record { refusal = refusal_case.BodyCutOff; at = 0 }) | false ↦ Ok (Some whole) ]) (Err why) → length rest ≤ 16
+    go true e whole g = let l = ltb-true (length rest) k.body_length e in omega arith
+    go false e whole g = absurd (let z : ◌≡◌ {A = ℕ} 0 1 = cc in omega arith)
+
+pub cut_held : (l : List ℕ) {why : Stopped} → read_at l 0 ≡ Err why → why.refusal ≡ refusal_case.BodyCutOff → length l ≤ 17
 unfolding read_at
-cut_held [] p e = omega arith
-cut_held (byte ∷ rest) p e = let h = cut_short p rest (found byte) e in omega arith
+cut_held [] e f = omega arith
+cut_held (byte ∷ rest) e f = let h = cut_short rest (found byte) e f in omega arith
 
-never_end : (rest : List ℕ) {a : Answer Row} → Found a → framed 0 rest a ≡ End → ⊥
+never_end : (rest : List ℕ) {a : Answer Row} → Found a → framed 0 rest a ≡ Ok None → ⊥
 never_end rest nowhere e = let z : ◌≡◌ {A = ℕ} 0 1 = cc in omega arith
-never_end rest (here k h) e = go (ltb (length rest) k.body_length) (parsed k.kind (take k.body_length rest)) (record { at = 0 + 1 + k.body_length }) e
+never_end rest (here k h) e =
+    go (ltb (length rest) k.body_length) (record { item = parsed k.kind (take k.body_length rest); next = record { at = 0 + 1 + k.body_length } }) e
   where
-    go : (b : Bool) (r : code.Record) (c : cursors.Cursor) → ◌≡◌ {A = reader.Read} (elim b [ true ↦ Refused body_cut_off 0 | false ↦ Whole r c ]) End → ⊥
-    go true r c f = let z : ◌≡◌ {A = ℕ} 0 1 = cc in omega arith
-    go false r c f = let z : ◌≡◌ {A = ℕ} 0 1 = cc in omega arith
+    go : (b : Bool) (whole : Whole)
+        → ◌≡◌ {A = Reading} (elim b [ true ↦ Err (record { refusal = refusal_case.BodyCutOff; at = 0 }) | false ↦ Ok (Some whole) ]) (Ok None) → ⊥
+    go true whole f = let z : ◌≡◌ {A = ℕ} 0 1 = cc in omega arith
+    go false whole f = let z : ◌≡◌ {A = ℕ} 0 1 = cc in omega arith
 
-pub no_end : (h : List ℕ) (b : ℕ) → read_at (h ++ (b ∷ [])) 0 ≡ End → ⊥
+pub no_end : (h : List ℕ) (b : ℕ) → read_at (h ++ (b ∷ [])) 0 ≡ Ok None → ⊥
 unfolding read_at
 no_end [] b e = never_end [] (found b) e
 no_end (byte ∷ rest) b e = never_end (rest ++ (b ∷ [])) (found byte) e

@@ -6,7 +6,7 @@ use Rattle.rules.specs.Refusals as rules
 use Rattle.rules.specs.Refusals.{refused, crossed_at}
 use Rattle.rules.specs.JobFile.{Step}
 use Rattle.lines.specs.Said.{pasted}
-use Rattle.projection.specs.Worked.{worked_forward}
+use Rattle.projection_worked.specs.Worked.{worked_forward}
 use Rattle.records.specs.declared.Record as records
 use Rattle.records.specs.declared.Record.TheVariants as record_case
 use Rattle.job_state.specs.declared.state.Answer as answers
@@ -333,14 +333,10 @@ pub record Turns (run₀ : Run) (chunk out₀ out : List ℕ) (j : Job) (p : Pas
   pub along : Along run₀ chunk out₀ j p out
   pub long : Full j
   pub room : Holds counts numbers
-  pub laid : p.laid ≡ true → Lies j.phase (take (at_most 17 j.rings - 0) counts) (take (2 * at_most 3072 j.total - 0) numbers) j
+  pub laid : p.laid ≡ true → Lies j.phase (take (at_most 17 j.rings) counts) (take (2 * at_most 3072 j.total) numbers) j
 
 no_truth : {A : Type 0} → false ≡ true → A
 no_truth e = absurd (let z : ◌≡◌ {A = ℕ} 0 1 = cc in omega arith)
-
--- the length of an array of structs, from that of their values
-pub unmapped : {A B : Type 0} (f : A → B) (l : List A) {n : ℕ} → length (map f l) ≡ n → length l ≡ n
-unmapped f l e = sym (length-map l f) ∙ e
 
 -- no record makes the corners more or fewer
 left_long : (s : rules.Answer Step) (i : records.Record) (j : Job) → Full j → Full (left s i j)
@@ -362,11 +358,11 @@ left_long (crossed_at pair) i j e = e
 -- a turn: a byte and room for any line are left, and the byte is asked
 module _ {run₀ : Run} {chunk out₀ out : List ℕ} {j : Job} {p : Passage} {counts : List ℕ} {numbers : List ℤ} (t : Turns run₀ chunk out₀ out j p counts numbers) (m : 0 < p.left)
     (room : p.wrote + 128 ≤ length out) where
-  pub stands : Stands j.phase j.count p.laid (take (at_most 17 j.rings - 0) counts) (take (2 * at_most 3072 j.total - 0) numbers) j
+  pub stands : Stands j.phase j.count p.laid (take (at_most 17 j.rings) counts) (take (2 * at_most 3072 j.total) numbers) j
   stands = record { has = record { phase_is = refl; count_is = refl; long = t.long.corners_long }; laid = t.laid }
 
-  module _ {p' : Passage} {out' : List ℕ} {k n : ℕ} (rings : k ≡ at_most 17 j.rings) (end : n ≡ 2 * at_most 3072 j.total) (asked_of : Turned p (get_or chunk (length chunk - p.left) 0) j.phase j.count (take (k - 0) counts) (take (n - 0) numbers) out p' out') where
-    u : Turned p (get_or chunk (length chunk - p.left) 0) j.phase j.count (take (at_most 17 j.rings - 0) counts) (take (2 * at_most 3072 j.total - 0) numbers) out p' out'
+  module _ {p' : Passage} {out' : List ℕ} {k n : ℕ} (rings : k ≡ at_most 17 j.rings) (end : n ≡ 2 * at_most 3072 j.total) (asked_of : Turned p (get_or chunk (length chunk - p.left) 0) j.phase j.count (take k counts) (take n numbers) out p' out') where
+    u : Turned p (get_or chunk (length chunk - p.left) 0) j.phase j.count (take (at_most 17 j.rings) counts) (take (2 * at_most 3072 j.total) numbers) out p' out'
     u = rw (rings, end) at asked_of
 
     pub keeps : p'.change ≡ Nothing → Turns run₀ chunk out₀ out' j p' counts numbers

@@ -1,18 +1,19 @@
 -- What a byte makes of a run, by what stands in the bytes that are then held; and what it asks of the job and makes of the passage. Assumes nothing.
 use mir.Syntax.{w64}
-use Rattle.std.proofs.Common.{◌≡◌, ℕ, ◌+◌, ◌-◌, ◌%◌, ◌^◌, ◌<◌, ◌≤◌, Bool, true, false, List, [], ◌∷◌, ◌++◌, length, take, ℤ, sym, refl, ap, ◌∙◌, subst, arith, length-take-le, to_z-of_z, w64, to_z, of_z, ne_eqb}
+use Rattle.std.proofs.Common.{◌≡◌, ℕ, ◌+◌, ◌-◌, ◌%◌, ◌^◌, ◌<◌, ◌≤◌, Bool, true, false, List, [], ◌∷◌, ◌++◌, length, take, ℤ, sym, refl, ap, ◌∙◌, subst, arith, length-take-le, to_z-of_z, w64, to_z, of_z, ne_eqb, Some, None, Ok, Err}
 use lib.Seq.{paste-zero}
 use lib.Signed.{mag}
 use Rattle.rules.specs.Refusals.{body_cut_off}
 use Rattle.lines.specs.declared.Line.{Line}
 use Rattle.lines.specs.Said.{said, pasted}
-use Rattle.projection.specs.Worked.{worked_forward}
+use Rattle.projection_worked.specs.Worked.{worked_forward}
 use Rattle.records.specs.declared.Record as code
 use Rattle.records.specs.declared.Record.TheVariants as record_case
-use Rattle.records.specs.declared.Cursor as cursors
-use Rattle.records.specs.declared.Read as reader
-use Rattle.records.specs.declared.Read.TheVariants.{Whole, Refused, End}
-use Rattle.records.specs.Reader.{read_at}
+use Rattle.terms.specs.declared.refusals.Refusal.TheVariants.{BodyCutOff}
+use Rattle.terms.specs.Numbers.{number_of}
+use Rattle.records.specs.declared.Whole.{Whole}
+use Rattle.records.specs.declared.Stopped.{Stopped}
+use Rattle.records.specs.Reader.{Reading, read_at}
 use Rattle.job_state.specs.declared.state.Phase as phases
 use Rattle.job_state.specs.declared.state.Answer as answers
 use Rattle.job_state.specs.declared.state.Answer.TheVariants as case
@@ -32,7 +33,7 @@ use Rattle.job.specs.declared.passage.Passage.{Passage}
 use Rattle.job.specs.Machine.{running, stopped, Took, advanced, considered, byte_taken, held_of, progress_by}
 use Rattle.job.specs.Runs.{refuses, progress, no_held, place_after, held_with, run_after, waiting, refused_run, run_by, run_with, run_byte}
 use Rattle.job.specs.Passages.{run_of, answered_at, storing, awaiting, refused_at, asking, Saying, Makes, Passing, Completes, Asked, Turned, Followed}
-use Rattle.job.proofs.Holding.{kept, cut_held, no_end}
+use Rattle.job.proofs.Holding.{kept, other_number, cut_held, no_end}
 use Rattle.job.proofs.Advance.{said_short, answered_printed, answered_next, answered_run}
 
 -- how far a run is that awaits more bytes
@@ -40,36 +41,36 @@ abbrev pub waits : Run → Held → Took
 waits run begun = record { next = running (view run.job) run.place.offset run.place.records (take begun.count begun.bytes); printed = [] }
 
 -- ---- what a byte makes of a run, by what stands in the bytes that are then held
-module _ (run : Run) (byte : ℕ) (begun : Held) (found : reader.Read) (goes : run.stopped ≡ false)
+module _ (run : Run) (byte : ℕ) (begun : Held) (found : Reading) (goes : run.stopped ≡ false)
     (held : take begun.count begun.bytes ≡ held_of run.held.count run.held.bytes ++ (byte ∷ [])) (with : begun ≡ held_with run.held byte) (read : found ≡ read_at (take begun.count begun.bytes) 0) where
   taken_as : byte_taken worked_forward (progress run) byte
       ≡ considered worked_forward (view run.job) run.place.offset run.place.records (take begun.count begun.bytes) found
   taken_as =
       ap (λ (b : Bool). byte_taken worked_forward (progress_by b (view run.job) run.place.offset run.place.records (held_of run.held.count run.held.bytes)) byte) goes
       ∙ ap (λ (l : List ℕ). considered worked_forward (view run.job) run.place.offset run.place.records l (read_at l 0)) (sym held)
-      ∙ ap (λ (r : reader.Read). considered worked_forward (view run.job) run.place.offset run.place.records (take begun.count begun.bytes) r) (sym read)
+      ∙ ap (λ (r : Reading). considered worked_forward (view run.job) run.place.offset run.place.records (take begun.count begun.bytes) r) (sym read)
 
   made_as : run_byte run byte ≡ run_by run begun found
   unfolding run_byte
   made_as =
       ap (λ (b : Bool). chosen b run (run_with run (held_with run.held byte))) goes ∙ ap (λ (h : Held). run_with run h) (sym with)
-      ∙ ap (λ (r : reader.Read). run_by run begun r) (sym read)
+      ∙ ap (λ (r : Reading). run_by run begun r) (sym read)
 
-  pub whole_taken : (r : code.Record) (c : cursors.Cursor) → found ≡ Whole r c
-      → Makes run byte (advanced run.place.offset run.place.records c.at (stepped worked_forward (view run.job) r)) (run_after run r c.at)
+  pub whole_taken : (whole : Whole) → found ≡ Ok (Some whole)
+      → Makes run byte (advanced run.place.offset run.place.records whole.next.at (stepped worked_forward (view run.job) whole.item)) (run_after run whole.item whole.next.at)
   unfolding considered
-  whole_taken r c e = record { taken = taken_as ∙ rw e refl; made = made_as ∙ rw e refl }
+  whole_taken whole e = record { taken = taken_as ∙ rw e refl; made = made_as ∙ rw e refl }
 
-  pub cut_taken : (n at : ℕ) → found ≡ Refused n at → n ≡ body_cut_off → Makes run byte (waits run begun) (waiting run begun)
+  pub cut_taken : (why : Stopped) → found ≡ Err why → why.refusal ≡ BodyCutOff → Makes run byte (waits run begun) (waiting run begun)
   unfolding considered
-  cut_taken n at e f = record { taken = taken_as ∙ rw (e, f) refl; made = made_as ∙ rw (e, f) refl }
+  cut_taken why e f = record { taken = taken_as ∙ rw (e, f) refl; made = made_as ∙ rw (e, f) refl }
 
-  pub unknown_taken : (n at : ℕ) → found ≡ Refused n at → (n ≡ body_cut_off → ⊥)
-      → Makes run byte (record { next = stopped; printed = refusal_text n run.place.offset }) (refused_run run)
+  pub unknown_taken : (why : Stopped) → found ≡ Err why → (why.refusal ≡ BodyCutOff → ⊥)
+      → Makes run byte (record { next = stopped; printed = refusal_text (number_of why.refusal) run.place.offset }) (refused_run run)
   unfolding considered
-  unknown_taken n at e f = record {
-    taken = taken_as ∙ rw e (rw (ne_eqb n body_cut_off f) refl);
-    made = made_as ∙ rw e (rw (ne_eqb n body_cut_off f) refl);
+  unknown_taken why e f = record {
+    taken = taken_as ∙ rw e (rw (ne_eqb (number_of why.refusal) body_cut_off (other_number why.refusal f)) refl);
+    made = made_as ∙ rw e (rw (ne_eqb (number_of why.refusal) body_cut_off (other_number why.refusal f)) refl);
   }
 
   still_held : begun.count ≤ 17 → progress (waiting run begun) ≡ (waits run begun).next
@@ -80,10 +81,10 @@ module _ (run : Run) (byte : ℕ) (begun : Held) (found : reader.Read) (goes : r
   few_held : length begun.bytes ≡ 18 → begun.count ≤ 18 → length (take begun.count begun.bytes) ≤ 17 → begun.count ≤ 17
   few_held l h f = let e = length-take-le begun.count begun.bytes (omega arith) in omega arith
 
-  pub cut_waits : (n at : ℕ) → length begun.bytes ≡ 18 → begun.count ≤ 18 → found ≡ Refused n at → n ≡ body_cut_off → progress (waiting run begun) ≡ (waits run begun).next
-  cut_waits n at l h e f = still_held (few_held l h (cut_held (take begun.count begun.bytes) at (sym read ∙ e ∙ ap (λ (n : ℕ). Refused n at) f)))
+  pub cut_waits : (why : Stopped) → length begun.bytes ≡ 18 → begun.count ≤ 18 → found ≡ Err why → why.refusal ≡ BodyCutOff → progress (waiting run begun) ≡ (waits run begun).next
+  cut_waits why l h e f = still_held (few_held l h (cut_held (take begun.count begun.bytes) (sym read ∙ e) f))
 
-  pub never_ends : found ≡ End → ⊥
+  pub never_ends : found ≡ Ok None → ⊥
   never_ends e = no_end (held_of run.held.count run.held.bytes) byte (ap (λ (l : List ℕ). read_at l 0) (sym held) ∙ sym read ∙ e)
 
 -- signed arguments, read back from their bits
@@ -127,7 +128,7 @@ keeping p X Y size e o n = same_passage false (changes_case.Store X Y) e (place_
 
 -- ---- what a byte makes of a passage
 -- the byte is put behind the held bytes, and what stands in them is read
-pub record Begun (p : Passage) (byte : ℕ) (begun : Held) (found : reader.Read) : Type 0 where
+pub record Begun (p : Passage) (byte : ℕ) (begun : Held) (found : Reading) : Type 0 where
   pub goes : p.stopped ≡ false
   pub few : begun.count ≤ 18
   pub held : take begun.count begun.bytes ≡ held_of p.held.count p.held.bytes ++ (byte ∷ [])
@@ -197,21 +198,26 @@ module _ (p : Passage) (i : code.Record) (size : ℕ) {reply : replies.Reply} wh
   pub asks_it : {out : List ℕ} {p' : Passage} → p' ≡ asking p (changes_case.Take i size) false → Followed p i size reply out p' out
   asks_it s = record { turned = λ byte phase count counts numbers m r. record { asked = rw s (refl, refl, m) } }
 
+pub begun_as : {p : Passage} {byte : ℕ} {begun : Held} {found : Reading} → p.stopped ≡ false
+    → (begun.count ≤ 18) × (take begun.count begun.bytes ≡ held_of p.held.count p.held.bytes ++ (byte ∷ [])) × (length begun.bytes ≡ 18) × (begun ≡ held_with p.held byte)
+    → found ≡ read_at (take begun.count begun.bytes) 0 → Begun p byte begun found
+begun_as g h r = record { goes = g; few = h.0; held = h.1; long = h.2; with = h.3; read = r }
+
 -- ---- any byte
-module _ {p : Passage} {byte : ℕ} {begun : Held} {found : reader.Read} (b : Begun p byte begun found) where
-  pub completes : {i : code.Record} {c : cursors.Cursor} → found ≡ Whole i c → Completes p byte i c.at
-  completes {i} {c} e j = whole_taken (run_of j p) byte begun found b.goes b.held b.with b.read i c e
+module _ {p : Passage} {byte : ℕ} {begun : Held} {found : Reading} (b : Begun p byte begun found) where
+  pub completes : {whole : Whole} → found ≡ Ok (Some whole) → Completes p byte whole.item whole.next.at
+  completes {whole} e j = whole_taken (run_of j p) byte begun found b.goes b.held b.with b.read whole e
 
   -- a record whose body is cut off still
-  pub waits_on : {phase : phases.Phase} {count : ℕ} {counts : List ℕ} {numbers : List ℤ} {out : List ℕ} {p' : Passage} (n at : ℕ) → found ≡ Refused n at → n ≡ body_cut_off
+  pub waits_on : {phase : phases.Phase} {count : ℕ} {counts : List ℕ} {numbers : List ℤ} {out : List ℕ} {p' : Passage} (why : Stopped) → found ≡ Err why → why.refusal ≡ BodyCutOff
       → p' ≡ awaiting p begun → Turned p byte phase count counts numbers out p' out
-  waits_on {out = out} n at e f g = record {
+  waits_on {out = out} why e f g = record {
     asked = rw g (
       refl,
       λ j h. record {
         took = waits (run_of j p) begun;
-        makes = cut_taken (run_of j p) byte begun found b.goes b.held b.with b.read n at e f;
-        next = cut_waits (run_of j p) byte begun found b.goes b.held b.with b.read n at b.long b.few e f;
+        makes = cut_taken (run_of j p) byte begun found b.goes b.held b.with b.read why e f;
+        next = cut_waits (run_of j p) byte begun found b.goes b.held b.with b.read why b.long b.few e f;
         short = omega arith;
         end = none p.wrote;
         holds = paste-zero out p.wrote [];
@@ -224,17 +230,17 @@ module _ {p : Passage} {byte : ℕ} {begun : Held} {found : reader.Read} (b : Be
       none n = omega arith
 
   -- a record of no kind
-  pub refuses_it : {phase : phases.Phase} {count : ℕ} {counts : List ℕ} {numbers : List ℤ} {out out' : List ℕ} {p' : Passage} (n at : ℕ) → found ≡ Refused n at
-      → (n ≡ body_cut_off → ⊥) → Saying (refusal_text n p.place.offset) p (refused_at p n) out p' out' → Turned p byte phase count counts numbers out p' out'
-  refuses_it n at e f s = record {
+  pub refuses_it : {phase : phases.Phase} {count : ℕ} {counts : List ℕ} {numbers : List ℤ} {out out' : List ℕ} {p' : Passage} (why : Stopped) → found ≡ Err why
+      → (why.refusal ≡ BodyCutOff → ⊥) → Saying (refusal_text (number_of why.refusal) p.place.offset) p (refused_at p (number_of why.refusal)) out p' out' → Turned p byte phase count counts numbers out p' out'
+  refuses_it why e f s = record {
     asked = rw s.is (
       refl,
       λ j g.
-          passed j j (refused_at p n) (unknown_taken (run_of j p) byte begun found b.goes b.held b.with b.read n at e f) refl refl refl refl refl s.short s.holds,
+          passed j j (refused_at p (number_of why.refusal)) (unknown_taken (run_of j p) byte begun found b.goes b.held b.with b.read why e f) refl refl refl refl refl s.short s.holds,
     );
   }
 
-  pub never_nothing : (j : Job) → found ≡ End → ⊥
+  pub never_nothing : (j : Job) → found ≡ Ok None → ⊥
   never_nothing j e = never_ends (run_of j p) byte begun found b.goes b.held b.with b.read e
 
 -- ---- a byte that was asked, by what it asks

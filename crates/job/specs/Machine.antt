@@ -1,14 +1,13 @@
 -- The job over a file's bytes in chunks, as an executable definition: how far a job has come, what a byte makes of it, and what is printed. Each byte goes to the
 -- bytes of the record that is begun, until these are a whole record or no kind. Whole shows that this is the rules' job for every file, however it is cut.
 -- Offsets and counts are those of 64 bits, so a file of 2^64 bytes or more would be counted modulo 2^64. Assumes nothing.
-use Rattle.std.specs.Prelude.{ℕ, suc, ◌+◌, ◌-◌, ◌%◌, ◌^◌, Bool, true, false, List, [], ◌∷◌, ◌++◌, length, take, ℤ, ◌==◌, nat_lt}
+use Rattle.std.specs.Prelude.{ℕ, suc, ◌+◌, ◌-◌, ◌%◌, ◌^◌, Bool, true, false, List, [], ◌∷◌, ◌++◌, length, take, ℤ, ◌==◌, nat_lt, Some, None, Ok, Err}
 use Rattle.rules.specs.Refusals as rules
 use Rattle.rules.specs.Refusals.{answered, refused, crossed_at, body_cut_off}
 use Rattle.rules.specs.Points as points
 use Rattle.rules.specs.JobFile.{State, no_field, Step, ending}
-use Rattle.records.specs.declared.Read as reader
-use Rattle.records.specs.declared.Read.TheVariants.{Whole, Refused, End}
-use Rattle.records.specs.Reader.{read_at}
+use Rattle.terms.specs.Numbers.{number_of}
+use Rattle.records.specs.Reader.{Reading, read_at}
 use Rattle.job_state.specs.Gathered.{chosen}
 use Rattle.job_state.specs.States.{stepped}
 use Rattle.job_lines.specs.Printed.{refusal_text, crossed_text}
@@ -39,11 +38,12 @@ advanced offset count size (crossed_at pair) = record { next = stopped; printed 
 
 module _ (forward_at : ℕ → ℤ → ℤ → rules.Answer points.Point) where
   -- the bytes of a record so far: whole, or of no kind; where its body is cut off, more bytes are awaited
-  unfoldable pub considered : State → ℕ → ℕ → List ℕ → reader.Read → Took
-  considered s offset count bytes (Whole r c) = advanced offset count c.at (stepped forward_at s r)
-  considered s offset count bytes (Refused n at) =
-      chosen (n == body_cut_off) (record { next = running s offset count bytes; printed = [] }) (record { next = stopped; printed = refusal_text n offset })
-  considered s offset count bytes End = record { next = running s offset count bytes; printed = [] }
+  unfoldable pub considered : State → ℕ → ℕ → List ℕ → Reading → Took
+  considered s offset count bytes (Ok (Some whole)) = advanced offset count whole.next.at (stepped forward_at s whole.item)
+  considered s offset count bytes (Err why) =
+      chosen (number_of why.refusal == body_cut_off) (record { next = running s offset count bytes; printed = [] })
+      (record { next = stopped; printed = refusal_text (number_of why.refusal) offset })
+  considered s offset count bytes (Ok None) = record { next = running s offset count bytes; printed = [] }
 
   abbrev pub byte_taken : Progress → ℕ → Took
   byte_taken (running s offset count bytes) byte = considered s offset count (bytes ++ (byte ∷ [])) (read_at (bytes ++ (byte ∷ [])) 0)

@@ -2,7 +2,7 @@
 -- few numbers of it that the answer rests on; so what is promised holds of every job that has those numbers. Assumes nothing.
 use Rattle.std.specs.Prelude.{◌≡◌, ℕ, ◌+◌, ◌-◌, ◌<◌, ◌≤◌, Bool, true, false, List, length, ℤ}
 use Rattle.lines.specs.Said.{pasted}
-use Rattle.projection.specs.Worked.{worked_forward}
+use Rattle.projection_worked.specs.Worked.{worked_forward}
 use Rattle.records.specs.declared.Record as records
 use Rattle.records.specs.declared.Record.TheVariants as record_case
 use Rattle.job_state.specs.declared.state.Answer as answers

@@ -1,15 +1,14 @@
 -- What the run's struct stands for in the terms of Machine; what bytes make of the struct itself, every place of it; and what the run's calls promise. Assumes
 -- nothing.
-use Rattle.std.specs.Prelude.{◌≡◌, ℕ, ◌+◌, ◌%◌, ◌^◌, ◌≤◌, Bool, true, false, List, [], ◌∷◌, ◌++◌, length, take, replicate, ◌==◌, nat_lt, slice_set}
+use Rattle.std.specs.Prelude.{◌≡◌, ℕ, ◌+◌, ◌%◌, ◌^◌, ◌≤◌, Bool, true, false, List, [], ◌∷◌, ◌++◌, length, take, replicate, ◌==◌, nat_lt, slice_set, Some, None, Ok, Err}
 use Rattle.rules.specs.Refusals as rules
 use Rattle.rules.specs.Refusals.{answered, refused, crossed_at, body_cut_off, out_of_place}
 use Rattle.rules.specs.JobFile.{Step, text, decimal}
 use Rattle.lines.specs.Said.{pasted}
 use Rattle.records.specs.declared.Record as records
-use Rattle.records.specs.declared.Read as reader
-use Rattle.records.specs.declared.Read.TheVariants.{Whole, Refused, End}
-use Rattle.records.specs.Reader.{read_at}
-use Rattle.projection.specs.Worked.{worked_forward}
+use Rattle.terms.specs.Numbers.{number_of}
+use Rattle.records.specs.Reader.{Reading, read_at}
+use Rattle.projection_worked.specs.Worked.{worked_forward}
 use Rattle.job_state.specs.declared.state.Answer as answers
 use Rattle.job_state.specs.declared.state.Answer.TheVariants as case
 use Rattle.job_state.specs.declared.state.Phase as phases
@@ -29,8 +28,7 @@ refuses (case.Field c n a) = false
 refuses (case.Inner k n a) = false
 refuses (case.Nozzle X Y p) = false
 refuses (case.Point X Y s c) = false
-refuses (case.Refused n) = true
-refuses (case.Crossed k i j looked) = true
+refuses (case.Refused r) = true
 
 -- how far a run has come
 abbrev pub progress : Run → Progress
@@ -73,10 +71,10 @@ abbrev pub refused_run : Run → Run
 refused_run run = record { job = run.job; held = run.held; place = run.place; stopped = true }
 
 -- by what stands in the bytes that are then held
-abbrev pub run_by : Run → Held → reader.Read → Run
-run_by run begun (Whole item c) = run_after run item c.at
-run_by run begun (Refused n at) = chosen (n == body_cut_off) (waiting run begun) (refused_run run)
-run_by run begun End = run
+abbrev pub run_by : Run → Held → Reading → Run
+run_by run begun (Ok (Some whole)) = run_after run whole.item whole.next.at
+run_by run begun (Err why) = chosen (number_of why.refusal == body_cut_off) (waiting run begun) (refused_run run)
+run_by run begun (Ok None) = run
 
 abbrev pub run_with : Run → Held → Run
 run_with run begun = run_by run begun (read_at (take begun.count begun.bytes) 0)

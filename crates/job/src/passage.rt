@@ -1,5 +1,6 @@
 // How far a call of `feed` has come: all of a run but its job, which stays where it lies. What a byte makes of that, and what it asks of the job.
 ghost use Rattle.std.specs.Prelude.{◌≡◌, ◌+◌, ◌-◌, ◌<◌, ◌≤◌, true, false, length, slice_index};
+ghost use Rattle.terms.specs.Numbers.{number_of};
 ghost use Rattle.job_state.specs.Gathered.{chosen};
 ghost use Rattle.job_lines.specs.Printed.{printed_at, refusal_text};
 ghost use Rattle.job.specs.Passages.{run_of, Saying, Turned, Followed, asking, answered_at, storing, awaiting, refused_at};
@@ -9,7 +10,8 @@ use crate::state::{Answer, Job, Phase};
 use crate::{line, run};
 use job_state::in_place;
 use job_state::in_place::Reply;
-use records::{Read, Record};
+use records::Record;
+use terms::Refusal;
 
 // What a byte asks of the job: nothing; that a corner be stored behind the others; that the corners be laid out for the query that is then answered; or that the
 // job take a record of so many bytes.
@@ -22,7 +24,7 @@ pub enum Change {
 }
 
 // The record that is begun and its place, how many bytes of the chunk are left, how many were written, whether a record was refused, whether the accepted rings are laid out for queries, and what
-// the last byte asks.
+// the last byte asks. `stopped` and `laid` stand beside values that are held either way. What room `out` has is asked where it is written to: it is of `out`, so no fact of this struct says it.
 #[derive(Clone, Copy)]
 pub struct Passage {
     pub held: Held,
@@ -40,13 +42,11 @@ impl Passage {
         requires { self.wrote ≤ room }
         ensures { (result ≡ true → (0 < self.left) × (self.wrote + 128 ≤ room)) × (result ≡ false → 0 < self.left → room < self.wrote + 128) }
     {
-        if self.left == 0 {
-            return false;
-        }
-        128 <= room - self.wrote
+        0 < self.left && 128 <= room - self.wrote
     }
 
-    // A byte more; nothing is done yet where the job is asked first, for its corners laid out or to take the record.
+    // A byte more; nothing is done yet where the job is asked first, for its corners laid out or to take the record. The job's phase, count and numbers come one by
+    // one, because the job is not handed over: it stays where it lies.
     pub fn turn(
         self,
         chunk: &[u8],
@@ -60,21 +60,20 @@ impl Passage {
         ensures { Turned self (slice_index chunk.now (length chunk.now - self.left)) phase count counts.now numbers.now out.old result out.new }
     {
         let at = chunk.len() - self.left;
-        let held = self.held;
-        let begun = held.with(chunk[at]);
+        let begun = self.held.with(chunk[at]);
         let found = begun.read();
         match found {
-            Read::Whole(item, cursor) => {
+            Ok(Some(whole)) => {
+                let item = whole.item;
                 let reply = in_place::reply_to(item, phase, count, self.laid, counts, numbers);
-                self.whole(item, cursor.at, reply, out)
+                self.whole(item, whole.next.at, reply, out)
             }
-            Read::Refused(n, _) => {
-                if n == 12 {
-                    return self.waits(begun);
-                }
-                self.refuses(n, out)
-            }
-            Read::End => self,
+            // With a byte there is always something.
+            Ok(None) => self,
+            Err(stopped) => match stopped.refusal {
+                Refusal::BodyCutOff => self.waits(begun),
+                refusal => self.refuses(refusal, out),
+            },
         }
     }
 
@@ -95,16 +94,10 @@ impl Passage {
     fn asks(self, change: Change, laid: bool) -> Passage
         ensures { result ≡ asking self change laid }
     {
-        let held = self.held;
-        let place = self.place;
         Passage {
-            held: held,
-            place: place,
-            left: self.left,
-            wrote: self.wrote,
-            stopped: self.stopped,
-            laid: laid,
-            change: change,
+            laid,
+            change,
+            ..self
         }
     }
 
@@ -113,15 +106,11 @@ impl Passage {
         requires { 0 < self.left }
         ensures { result ≡ awaiting self begun }
     {
-        let place = self.place;
         Passage {
             held: begun,
-            place: place,
             left: self.left - 1,
-            wrote: self.wrote,
-            stopped: self.stopped,
-            laid: self.laid,
             change: Change::Nothing,
+            ..self
         }
     }
 
@@ -130,17 +119,16 @@ impl Passage {
         requires { (0 < self.left) × (self.wrote + 128 ≤ length out.old) }
         ensures { Saying (printed_at answer self.place.offset) self (answered_at self answer size) out.old result out.new }
     {
-        let place = self.place;
-        let end = line::answer_line(answer, place.offset).put(out, self.wrote);
+        let end = line::answer_line(answer, self.place.offset).put(out, self.wrote);
         let stops = run::refuses(answer);
         Passage {
             held: Held::none(),
-            place: place.after(size),
+            place: self.place.after(size),
             left: left_after(self.left, stops),
             wrote: end,
             stopped: stops,
-            laid: self.laid,
             change: Change::Nothing,
+            ..self
         }
     }
 
@@ -149,34 +137,29 @@ impl Passage {
         requires { 0 < self.left }
         ensures { result ≡ storing self size x y }
     {
-        let place = self.place;
         Passage {
             held: Held::none(),
-            place: place.after(size),
+            place: self.place.after(size),
             left: self.left - 1,
-            wrote: self.wrote,
             stopped: false,
             laid: false,
             change: Change::Store(x, y),
+            ..self
         }
     }
 
     // The record that is begun is of no kind.
-    fn refuses(self, n: u8, out: &mut [u8]) -> Passage
+    fn refuses(self, refusal: Refusal, out: &mut [u8]) -> Passage
         requires { self.wrote + 128 ≤ length out.old }
-        ensures { Saying (refusal_text n self.place.offset) self (refused_at self n) out.old result out.new }
+        ensures { Saying (refusal_text (number_of refusal) self.place.offset) self (refused_at self (number_of refusal)) out.old result out.new }
     {
-        let held = self.held;
-        let place = self.place;
-        let end = line::refusal_line(n, place.offset).put(out, self.wrote);
+        let end = line::refusal_line(refusal, self.place.offset).put(out, self.wrote);
         Passage {
-            held: held,
-            place: place,
             left: 0,
             wrote: end,
             stopped: true,
-            laid: self.laid,
             change: Change::Nothing,
+            ..self
         }
     }
 
@@ -185,13 +168,11 @@ impl Passage {
         requires { self.left ≤ length }
         ensures { (result.run ≡ run_of job self) × (result.used ≡ length - self.left) × (result.wrote ≡ self.wrote) }
     {
-        let held = self.held;
-        let place = self.place;
         Fed {
             run: Run {
-                job: job,
-                held: held,
-                place: place,
+                job,
+                held: self.held,
+                place: self.place,
                 stopped: self.stopped,
             },
             used: length - self.left,
@@ -205,8 +186,5 @@ fn left_after(left: usize, stops: bool) -> usize
     requires { 0 < left }
     ensures { result ≡ chosen stops 0 (left - 1) }
 {
-    if stops {
-        return 0;
-    }
-    left - 1
+    if stops { 0 } else { left - 1 }
 }

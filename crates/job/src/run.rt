@@ -9,12 +9,13 @@ ghost use Rattle.job.specs.Passages.{starting};
 
 use crate::line;
 use crate::passage::{Change, Passage};
-use crate::state::{Answer, Corner, Job, Phase};
+use crate::state::{Answer, Job, Phase};
 use job_state::in_place;
 use lines::Line;
-use records::{Cursor, Read};
+use records::{Cursor, Stopped, Whole};
+use terms::{Corner, Refusal};
 
-// The bytes so far of the record that is begun: the first `count`.
+// The bytes so far of the record that is begun: the first `count`. An array of the most there can be, with the count beside it: the library has no heap.
 #[derive(Clone, Copy)]
 pub struct Held {
     pub bytes: [u8; 18],
@@ -28,6 +29,7 @@ pub struct Place {
     pub records: u64,
 }
 
+// `stopped` after a refused record: a run that is stopped comes back as it was (`stopped_stays`), so the flag stands beside the rest and not in its place.
 #[derive(Clone, Copy)]
 pub struct Run {
     pub job: Job,
@@ -64,13 +66,11 @@ impl Held {
         self
     }
 
-    pub(crate) fn read(self) -> Read
+    pub(crate) fn read(self) -> Result<Option<Whole>, Stopped>
         requires { self.count ≤ 18 }
         ensures { result ≡ read_at (take self.count self.bytes) 0 }
     {
-        let bytes = self.bytes;
-        let count = self.count;
-        Cursor::start().read(&bytes[0..count])
+        Cursor::start().read(&self.bytes[..self.count])
     }
 }
 
@@ -78,10 +78,7 @@ impl Held {
 fn settled(count: usize) -> usize
     ensures { result ≡ settled count }
 {
-    if 17 < count {
-        return 0;
-    }
-    count
+    if 17 < count { 0 } else { count }
 }
 
 impl Place {
@@ -89,8 +86,8 @@ impl Place {
         ensures { (result.offset ≡ (self.offset + size) % 2 ^ 64) × (result.records ≡ (self.records + 1) % 2 ^ 64) }
     {
         Place {
-            offset: std::num::wrapping_add_u64(self.offset, size as u64),
-            records: std::num::wrapping_add_u64(self.records, 1),
+            offset: self.offset.wrapping_add(size as u64),
+            records: self.records.wrapping_add(1),
         }
     }
 }
@@ -98,15 +95,7 @@ impl Place {
 pub(crate) fn refuses(answer: Answer) -> bool
     ensures { result ≡ refuses answer }
 {
-    match answer {
-        Answer::Silent => false,
-        Answer::Field(_, _, _) => false,
-        Answer::Inner(_, _, _) => false,
-        Answer::Nozzle(_, _, _) => false,
-        Answer::Point(_, _, _, _) => false,
-        Answer::Refused(_) => true,
-        Answer::Crossed(_, _, _, _) => true,
-    }
+    matches!(answer, Answer::Refused(_))
 }
 
 impl Run {
@@ -148,18 +137,19 @@ impl Run {
         let mut passage = self.start(chunk.len());
         let mut counts = [0u32; 17];
         let mut numbers = [0i64; 6144];
+        // No `for`: a byte that asks for the job is asked again. Each arm ends with `continue`, so that each is a goal of its own.
         while passage.goes(out.len()) {
             let phase = job.phase;
             let count = job.count;
             let held = in_place::counts_held(job.rings);
             let end = in_place::numbers_held(job.total);
-            passage = passage.turn(chunk, phase, count, &counts[0..held], &numbers[0..end], out);
+            passage = passage.turn(chunk, phase, count, &counts[..held], &numbers[..end], out);
             let change = passage.change;
             match change {
                 Change::Nothing => continue,
                 Change::Store(x, y) => {
                     let place = in_place::corner_place(phase, job.total, count);
-                    job.corners[place] = Corner { x: x, y: y };
+                    job.corners[place] = Corner { x, y };
                     job.count = count + 1;
                     continue;
                 }
@@ -183,11 +173,9 @@ impl Run {
     fn start(self, length: usize) -> Passage
         ensures { result ≡ starting self length }
     {
-        let held = self.held;
-        let place = self.place;
         Passage {
-            held: held,
-            place: place,
+            held: self.held,
+            place: self.place,
             left: length,
             wrote: 0,
             stopped: false,
@@ -200,17 +188,10 @@ impl Run {
     pub fn finish(self, out: &mut [u8]) -> usize
         ensures { Finishing self out.old result out.new }
     {
-        if out.len() < 128 {
+        if out.len() < 128 || self.stopped {
             return 0;
         }
-        if self.stopped {
-            return 0;
-        }
-        let count = self.held.count;
-        let job = self.job;
-        let phase = job.phase;
-        let place = self.place;
-        last_line(count, phase, place).put(out, 0)
+        last_line(self.held.count, self.job.phase, self.place).put(out, 0)
     }
 }
 
@@ -222,7 +203,7 @@ fn last_line(held: usize, phase: Phase, place: Place) -> Line
         return ending_line(phase, place);
     }
     if 0 < held {
-        return line::refusal_line(12, place.offset);
+        return line::refusal_line(Refusal::BodyCutOff, place.offset);
     }
     ending_line(phase, place)
 }
@@ -231,9 +212,7 @@ fn ending_line(phase: Phase, place: Place) -> Line
     ensures { Says (ending_by phase place.offset place.records) result }
 {
     match phase {
-        Phase::Idle => line::end_line(place.records),
-        Phase::Gathering => line::refusal_line(13, place.offset),
-        Phase::Accepted => line::end_line(place.records),
-        Phase::Inner => line::refusal_line(13, place.offset),
+        Phase::Idle | Phase::Accepted => line::end_line(place.records),
+        Phase::Gathering | Phase::Inner => line::refusal_line(Refusal::OutOfPlace, place.offset),
     }
 }

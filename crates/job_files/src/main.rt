@@ -11,6 +11,7 @@ use std::{fs, io};
 fn feed_chunk(rt: &impl Print, start: Run, chunk: &[u8], out: &mut [u8]) -> io::Result<Run> {
     let mut run = start;
     let mut at: usize = 0;
+    // No `for`: each call says how far the next one starts.
     while at < chunk.len() {
         let fed = run.feed(&chunk[at..], out);
         run = fed.run;
@@ -46,6 +47,7 @@ fn feed_file<F: Read>(
     out: &mut [u8],
 ) -> io::Result<Run> {
     let mut run = Run::new();
+    // A count, because every loop has to end; no file of the gate has so many chunks.
     for _ in 0..1000000u64 {
         match one_chunk(rt, file, run, bytes, out)? {
             Some(next) => run = next,
@@ -82,10 +84,7 @@ fn one_argument(rt: &(impl Files + Print), k: usize, name: &str) -> io::Result<(
 }
 
 fn main(rt: HostRuntime) -> io::Result<()> {
-    for (k, name) in std::env::args(&rt)?.enumerate() {
-        if k == 0 {
-            continue;
-        }
+    for (k, name) in std::env::args(&rt)?.enumerate().skip(1) {
         one_argument(&rt, k, name.as_str())?;
     }
     Ok(())

@@ -1,5 +1,5 @@
 -- A line built up of texts and numbers: its length by its parts', and its text. Assumes nothing.
-use mathlib.Core.Path.{◌≡◌, ap, ◌∙◌}
+use mathlib.Core.Path.{◌≡◌, refl, ap, ◌∙◌}
 use mathlib.Core.List.{List, [], ◌++◌}
 use Prim.Native.Nat.{ℕ, ◌+◌, ◌^◌, ◌≤◌, ◌<◌}
 use native.Mathlib.Omega.{arith}
@@ -10,11 +10,15 @@ use mir.Syntax.{w64}
 use mir.Val.{to_z, of_z, SFits}
 use mir.Facts.{to_z-of_z}
 use Rattle.rules.specs.JobFile.{whole}
+use Rattle.terms.specs.declared.refusals.CrossedPair.{CrossedPair}
+use Rattle.terms.specs.declared.refusals.Refusal.{Refusal}
+use Rattle.terms.specs.declared.refusals.Refusal.TheVariants as refusal_case
+use Rattle.terms.specs.Numbers.{number_of}
 use Rattle.lines.specs.declared.Line.{Line}
 use Rattle.lines.specs.Said.{said, Longer}
 use Rattle.job_state.specs.declared.state.Answer as answers
 use Rattle.job_state.specs.declared.state.Answer.TheVariants as case
-use Rattle.job_state.specs.declared.state.Position as positions
+use Rattle.terms.specs.declared.positions.Position as positions
 use Rattle.job_lines.specs.Printed.{Says, printed_at, refusal_text, crossed_text}
 use Rattle.job_state.specs.States.{line}
 
@@ -62,8 +66,30 @@ module _ {a : answers.Answer} (o : ℕ) {l : Line} where
   point_said e hx hy hk hc s =
       rw e (rw (to_z-of_z (record { sfits = hx }), to_z-of_z (record { sfits = hy }), to_z-of_z (record { sfits = hk }), to_z-of_z (record { sfits = hc })) at s)
 
-  pub refused_said : {n : ℕ} → a ≡ case.Refused n → Says (refusal_text n o) l → Says (printed_at a o) l
+  pub refused_said : {r : Refusal} → a ≡ case.Refused r → Says (printed_at (case.Refused r) o) l → Says (printed_at a o) l
   refused_said e s = rw e s
 
-  pub crossed_said : {k i j looked : ℕ} → a ≡ case.Crossed k i j looked → Says (crossed_text o i j) l → Says (printed_at a o) l
+-- a refusal, but for that of a crossed ring, has its number alone
+any_other : (r : Refusal) (o : ℕ) → ((pair : CrossedPair) → r ≡ refusal_case.RingCrossed pair → ⊥) → refusal_text (number_of r) o ≡ printed_at (case.Refused r) o
+any_other refusal_case.CodeUnknown o n = refl
+any_other refusal_case.LatitudeOutside o n = refl
+any_other refusal_case.LongitudeOutside o n = refl
+any_other refusal_case.PlaneOutside o n = refl
+any_other refusal_case.EllipsoidsDiffer o n = refl
+any_other refusal_case.CornerCount o n = refl
+any_other refusal_case.CornerNumber o n = refl
+any_other refusal_case.SpanTooLarge o n = refl
+any_other (refusal_case.RingCrossed pair) o n = absurd (n pair refl)
+any_other refusal_case.KindUnknown o n = refl
+any_other refusal_case.BodyCutOff o n = refl
+any_other refusal_case.OutOfPlace o n = refl
+any_other refusal_case.OutputTooShort o n = refl
+any_other refusal_case.BadlyPlaced o n = refl
+any_other refusal_case.TooManyRings o n = refl
+
+module _ {r : Refusal} (o : ℕ) {l : Line} where
+  pub other_said : ((pair : CrossedPair) → r ≡ refusal_case.RingCrossed pair → ⊥) → Says (refusal_text (number_of r) o) l → Says (printed_at (case.Refused r) o) l
+  other_said n s = rw (any_other r o n) at s
+
+  pub crossed_said : {pair : CrossedPair} → r ≡ refusal_case.RingCrossed pair → Says (crossed_text o pair.low pair.high) l → Says (printed_at (case.Refused r) o) l
   crossed_said e s = rw e s

@@ -2,6 +2,8 @@
 use Rattle.std.specs.Prelude.{◌≡◌, List, ◌++◌, ℕ, ◌≤◌}
 use Rattle.rules.specs.Refusals.{ring_crossed}
 use Rattle.rules.specs.JobFile.{text, decimal, refusal_line}
+use Rattle.terms.specs.declared.refusals.Refusal.TheVariants.{RingCrossed}
+use Rattle.terms.specs.Numbers.{number_of}
 use Rattle.lines.specs.declared.Line.{Line}
 use Rattle.lines.specs.Said.{said}
 use Rattle.job_state.specs.declared.state.Answer as answers
@@ -21,8 +23,8 @@ printed_at (case.Field c n a) offset = line (case.Field c n a)
 printed_at (case.Inner k n a) offset = line (case.Inner k n a)
 printed_at (case.Nozzle X Y p) offset = line (case.Nozzle X Y p)
 printed_at (case.Point X Y s c) offset = line (case.Point X Y s c)
-printed_at (case.Refused n) offset = refusal_text n offset
-printed_at (case.Crossed k i j looked) offset = crossed_text offset i j
+printed_at (case.Refused (RingCrossed pair)) offset = crossed_text offset pair.low pair.high
+printed_at (case.Refused refusal) offset = refusal_text (number_of refusal) offset
 
 -- a line of at most 128 bytes, and its text
 pub record Says (words : List ℕ) (l : Line) : Type 0 where

@@ -4,9 +4,11 @@ ghost use Rattle.rules.specs.Refusals.{ring_crossed};
 ghost use Rattle.std.specs.Prelude.{◌++◌};
 ghost use Rattle.job_state.specs.States.{line};
 ghost use Rattle.job_lines.specs.Printed.{printed_at, Says};
+ghost use Rattle.terms.specs.Numbers.{number_of};
 
-use job_state::state::{Answer, Position};
+use job_state::state::Answer;
 use lines::Line;
+use terms::{CrossedPair, Position, Refusal};
 
 // What is printed for a record whose kind byte is at `offset`.
 pub fn answer_line(answer: Answer, offset: u64) -> Line
@@ -18,8 +20,7 @@ pub fn answer_line(answer: Answer, offset: u64) -> Line
         Answer::Inner(number, count, area) => inner_line(number, count, area),
         Answer::Nozzle(x, y, position) => nozzle_line(x, y, position),
         Answer::Point(x, y, scale, convergence) => point_line(x, y, scale, convergence),
-        Answer::Refused(n) => refusal_line(n, offset),
-        Answer::Crossed(_, low, high, _) => crossed_line(offset, low, high),
+        Answer::Refused(refusal) => refused_line(refusal, offset),
     }
 }
 
@@ -80,19 +81,29 @@ fn point_line(x: i64, y: i64, scale: i64, convergence: i64) -> Line
         .with(b"\n")
 }
 
-pub fn refusal_line(n: u8, offset: u64) -> Line
-    ensures { Says (refusal_line n offset ++ text "\n") result }
+// A crossed ring's refusal names the pair of edges besides.
+fn refused_line(refusal: Refusal, offset: u64) -> Line
+    ensures { Says (printed_at (Answer.Refused refusal) offset) result }
+{
+    match refusal {
+        Refusal::RingCrossed(pair) => crossed_line(offset, pair),
+        other => refusal_line(other, offset),
+    }
+}
+
+pub fn refusal_line(refusal: Refusal, offset: u64) -> Line
+    ensures { Says (refusal_line (number_of refusal) offset ++ text "\n") result }
 {
     Line::empty()
         .with(b"refused ")
-        .with_number(n as u64)
+        .with_number(refusal.number() as u64)
         .with(b" at ")
         .with_number(offset)
         .with(b"\n")
 }
 
-fn crossed_line(offset: u64, low: u64, high: u64) -> Line
-    ensures { Says (refusal_line ring_crossed offset ++ text " edges " ++ decimal low ++ text " " ++ decimal high ++ text "\n") result }
+fn crossed_line(offset: u64, pair: CrossedPair) -> Line
+    ensures { Says (refusal_line ring_crossed offset ++ text " edges " ++ decimal pair.low ++ text " " ++ decimal pair.high ++ text "\n") result }
 {
     Line::empty()
         .with(b"refused ")
@@ -100,9 +111,9 @@ fn crossed_line(offset: u64, low: u64, high: u64) -> Line
         .with(b" at ")
         .with_number(offset)
         .with(b" edges ")
-        .with_number(low)
+        .with_number(pair.low)
         .with(b" ")
-        .with_number(high)
+        .with_number(pair.high)
         .with(b"\n")
 }
 

@@ -1,4 +1,5 @@
 -- The gathered corners laid out flat: the loop that does it, and the rules' checks of the flat list. Assumes nothing.
+use Rattle.std.proofs.lemmas.List.{map-append}
 use mathlib.Core.Path.{◌≡◌, refl, sym, ap, ◌∙◌}
 use mathlib.Core.Bool.{Bool, true, false}
 use mathlib.Core.List.{List, [], ◌∷◌, ◌++◌, map, append_assoc}
@@ -10,40 +11,31 @@ use lib.IntN.{ℤ, pos, negsuc, neg_ℤ}
 use lib.ListN.{length, take, drop, get_or, set, length-set, length-drop}
 use lib.Seq.{take-suc, take-suc-set, take_all, take-nil, take_at, drop_at}
 use lib.Signed.{lt_z, mag}
+use Rattle.std.specs.Int.{int_min, int_max}
 use mir.Syntax.{w64}
 use mir.Val.{to_z, of_z, SFits}
 use mir.Facts.{to_z-of_z}
 use Rattle.rules.specs.Rings.{Corner, area2}
 use Rattle.rules.specs.Points.{above}
-use Rattle.rules.specs.Refusals.{Answer, answered, refused, crossed_at, ◌>>=◌, ◌>>◌, ◌if◌, corner_count, span_too_large}
+use Rattle.rules.specs.Refusals.{Answer, answered, ◌>>=◌, ◌>>◌, ◌if◌, corner_count, span_too_large}
 use Rattle.rules.specs.RingAnswers.{corners, count_bad, number_bad, corner_bad, any_bad, span_bad, not_crossed, ring_checks, area_answer, crossing_answer}
-use Rattle.rings.specs.declared.CrossingAnswer as crossings
-use Rattle.rings.specs.declared.CrossingAnswer.TheVariants as crossing_case
-use Rattle.rings.specs.Answers.{crossing_paper}
-use Rattle.job_state.specs.declared.ring.Judged as judgement
-use Rattle.job_state.specs.declared.state.Corner as code
-use Rattle.job_state.specs.Gathered.{chosen, within, corner_of, ring_of, flat, ring_from, judged, judged_flat, judged_paper}
+use Rattle.terms.specs.declared.corners.Corner as code
+use Rattle.job_state.specs.Gathered.{chosen, within, corner_of, ring_of, flat, ring_from, judged, judged_flat}
 
 -- ---- a number within the limits
-module _ (z : ℤ) (f : SFits w64 z) where
-  seen : (a : ℤ) {t : Bool} → lt_z a (to_z w64 (of_z w64 z)) ≡ t → lt_z a z ≡ t
-  seen a h = ap (λ (y : ℤ). lt_z a y) (sym (to_z-of_z f)) ∙ h
+-- as the code limits it
+clamped : (z : ℤ) → int_max (negsuc 9_999_999_999) (int_min z (pos (10 ^ 10))) ≡ within z
+unfolding within
+clamped z = go (lt_z (pos (10 ^ 10)) z) refl (lt_z z (negsuc 9_999_999_999)) refl
+  where
+    go : (s : Bool) → lt_z (pos (10 ^ 10)) z ≡ s → (t : Bool) → lt_z z (negsuc 9_999_999_999) ≡ t
+        → int_max (negsuc 9_999_999_999) (int_min z (pos (10 ^ 10))) ≡ chosen s (pos (10 ^ 10)) (chosen t (negsuc 9_999_999_999) z)
+    go true e t f = rw e refl
+    go false e true f = rw e (rw f refl)
+    go false e false f = rw e (rw f refl)
 
-  under : (a : ℤ) {t : Bool} → lt_z (to_z w64 (of_z w64 z)) a ≡ t → lt_z z a ≡ t
-  under a h = ap (λ (y : ℤ). lt_z y a) (sym (to_z-of_z f)) ∙ h
-
-  pub high : lt_z (pos (10 ^ 10)) (to_z w64 (of_z w64 z)) ≡ true → pos (10 ^ 10) ≡ within z
-  unfolding within
-  high h = rw (seen (pos (10 ^ 10)) h) refl
-
-  pub low : lt_z (pos (10 ^ 10)) (to_z w64 (of_z w64 z)) ≡ false → lt_z (to_z w64 (of_z w64 z)) (neg_ℤ (pos (10 ^ 10))) ≡ true → neg_ℤ (pos (10 ^ 10)) ≡ within z
-  unfolding within
-  low h g = rw (seen (pos (10 ^ 10)) h, under (neg_ℤ (pos (10 ^ 10))) g) refl
-
-  pub inside : lt_z (pos (10 ^ 10)) (to_z w64 (of_z w64 z)) ≡ false → lt_z (to_z w64 (of_z w64 z)) (neg_ℤ (pos (10 ^ 10))) ≡ false
-      → to_z w64 (of_z w64 z) ≡ within z
-  unfolding within
-  inside h g = rw (seen (pos (10 ^ 10)) h, under (neg_ℤ (pos (10 ^ 10))) g) (to_z-of_z f)
+pub clamped_back : {z y : ℤ} → mag y < 2 ^ 63 → SFits w64 z → y ≡ int_max (negsuc 9_999_999_999) (int_min (to_z w64 (of_z w64 z)) (pos (10 ^ 10))) → to_z w64 (of_z w64 y) ≡ within z
+clamped_back {z} h f e = to_z-of_z {w = w64} (record { sfits = h }) ∙ e ∙ clamped (to_z w64 (of_z w64 z)) ∙ ap within (to_z-of_z f)
 
 -- ---- the loop
 pub flat_append : (a b : List Corner) → flat (a ++ b) ≡ flat a ++ flat b
@@ -51,14 +43,10 @@ unfolding flat
 flat_append [] b = refl
 flat_append (c ∷ a) b = ap (λ (l : List ℤ). c.x ∷ c.y ∷ l) (flat_append a b)
 
-pub map_append : {A B : Type 0} (f : A → B) (a b : List A) → map f (a ++ b) ≡ map f a ++ map f b
-map_append f [] b = refl
-map_append f (x ∷ a) b = ap (λ l. f x ∷ l) (map_append f a b)
-
 pub ring_more : (cs : List code.Corner) (i : ℕ) (d : code.Corner) → i < length cs → ring_of (i + 1) cs ≡ ring_of i cs ++ (corner_of (get_or cs i d) ∷ [])
 unfolding ring_of
 ring_more cs i d h =
-    ap (λ (k : ℕ). map corner_of (take k cs)) (add-one i) ∙ ap (map corner_of) (take-suc cs i d h) ∙ map_append corner_of (take i cs) (get_or cs i d ∷ [])
+    ap (λ (k : ℕ). map corner_of (take k cs)) (add-one i) ∙ ap (map corner_of) (take-suc cs i d h) ∙ map-append corner_of (take i cs) (get_or cs i d ∷ [])
 
 pub record Flattening (cs : List code.Corner) (numbers : List ℤ) (i : ℕ) : Type 0 where
   pub long : length numbers ≡ 6144
@@ -160,13 +148,7 @@ module _ (r : List Corner) (good : any_bad r ≡ false) where
       go false true e = absurd (let z : ◌≡◌ {A = ℕ} 0 1 = cc e in omega arith)
       go false false e = refl
 
--- ---- parts of the array: from its start on, and one after the other
-pub part : (n : ℕ) (l : List ℤ) {r : List ℤ} → take n l ≡ r → take (n - 0) l ≡ r
-part n l e = ap (λ (k : ℕ). take k l) (same n) ∙ e
-  where
-    same : (n : ℕ) → n - 0 ≡ n
-    same n = omega arith
-
+-- ---- parts of the array, one after the other
 pub rest : (n : ℕ) (l : List ℤ) → n ≤ length l → take (length l - n) (drop n l) ≡ drop n l
 rest n l h = let d = length-drop n l in take_all (length l - n) (drop n l) (omega arith)
 
@@ -183,7 +165,7 @@ take_plus (suc m) n (x ∷ l) = ap (λ (k : ℕ). take k (x ∷ l)) (next m n) �
 
 pub ring_split : (start n : ℕ) (cs : List code.Corner) → ring_of (start + n) cs ≡ ring_of start cs ++ ring_from start n cs
 unfolding ring_of
-ring_split start n cs = ap (map corner_of) (take_plus start n cs) ∙ map_append corner_of (take start cs) (take n (drop start cs))
+ring_split start n cs = ap (map corner_of) (take_plus start n cs) ∙ map-append corner_of (take start cs) (take n (drop start cs))
 
 pub flat_length : (r : List Corner) → length (flat r) ≡ 2 * length r
 unfolding flat
@@ -202,17 +184,3 @@ module _ (start n : ℕ) (cs : List code.Corner) (fits : length (ring_of start c
 
   pub second_part : drop (2 * start) (flat (ring_of (start + n) cs)) ≡ flat (ring_from start n cs)
   second_part = ap (drop (2 * start)) both ∙ drop_at (flat (ring_of start cs)) (flat (ring_from start n cs)) (2 * start) first_long
-
--- ---- the crossing test's cases
-module _ (numbers : List ℤ) {c : crossings.CrossingAnswer} (told : crossing_paper c ≡ crossing_answer numbers) where
-  pub clean_judged : (p : judgement.Judged) {looked : ℕ} → c ≡ crossing_case.Clean looked → judged_paper p ≡ area_answer numbers → judged_paper p ≡ judged_flat numbers
-  unfolding judged_flat
-  clean_judged p e h = h ∙ ap (λ (x : Answer ℕ). x >> area_answer numbers) (sym (ap crossing_paper e) ∙ told)
-
-  pub crossed_judged : {i j looked : ℕ} → c ≡ crossing_case.Crossed i j looked → crossed_at (record { ring = 0; low = i; high = j; looked_at = looked }) ≡ judged_flat numbers
-  unfolding judged_flat
-  crossed_judged e = ap (λ (x : Answer ℕ). x >> area_answer numbers) (sym (ap crossing_paper e) ∙ told)
-
-  pub refused_judged : {n : ℕ} → c ≡ crossing_case.Refused n → refused n ≡ judged_flat numbers
-  unfolding judged_flat
-  refused_judged e = ap (λ (x : Answer ℕ). x >> area_answer numbers) (sym (ap crossing_paper e) ∙ told)

@@ -2,7 +2,7 @@
 use mathlib.Core.Path.{◌≡◌, refl, sym, ap, ◌∙◌}
 use mathlib.Core.Bool.{Bool, true, false, ◌||◌}
 use mathlib.Core.List.{List, [], ◌∷◌}
-use Prim.Native.Nat.{ℕ, ◌+◌, ◌*◌, ◌-◌, ◌≤◌, ◌<◌}
+use Prim.Native.Nat.{ℕ, ◌+◌, ◌*◌, ◌≤◌, ◌<◌}
 use native.Mathlib.Omega.{arith}
 use borrow.Author.Tests.{lt-leb, le-ltb}
 use lib.Dec.{ltb}
@@ -10,22 +10,20 @@ use lib.IntN.{ℤ}
 use lib.ListN.{length, take, drop, length-drop}
 use lib.Seq.{length-take-le}
 use Rattle.rules.specs.Rings.{Corner, line, edges, total, turning_number, area2}
-use Rattle.rules.specs.Refusals.{Answer, answered, refused, crossed_at, Passed, passed, ◌>>=◌, ◌>>◌, ◌if◌, in_ring, corner_count, span_too_large, badly_placed}
+use Rattle.rules.specs.Refusals.{Answer, answered, refused, crossed_at, passed, ◌>>=◌, ◌>>◌, ◌if◌, in_ring, corner_count, span_too_large, badly_placed}
 use Rattle.rules.specs.RingAnswers.{count_bad, any_bad, span_bad, not_crossed, area_answer, crossing_answer}
 use Rattle.rules.specs.Fields.{Field}
 use Rattle.rules.specs.Placing.{any_meet, rings_meet, first_outside, entangled_any, misplaced}
 use Rattle.rules.specs.FieldAnswers.{alone, with_ring, inner_count_bad, inner_checks, placed, field_read, join_answer}
-use Rattle.ring_checks.specs.Refusal.{refusal_of}
-use Rattle.rings.specs.declared.CrossingAnswer as crossings
-use Rattle.rings.specs.declared.CrossingAnswer.TheVariants as crossing_case
-use Rattle.rings.specs.Answers.{crossing_paper}
-use Rattle.fields.specs.declared.FieldAnswer as joins
-use Rattle.fields.specs.declared.FieldAnswer.TheVariants as join_case
-use Rattle.fields.specs.Answers.{field_paper}
-use Rattle.job_state.specs.declared.ring.Judged as judgement
-use Rattle.job_state.specs.declared.state.Corner as code
-use Rattle.job_state.specs.Gathered.{ring_of, ring_from, flat, inner_judged, joined_flat, apart_flat, beside_by, beside_flat, field_or_none, judged_paper}
-use Rattle.job_state.proofs.Flat.{corners_flat, checks_by, checks_flat, ring_within, part, first_part, second_part}
+use Rattle.terms.specs.declared.corners.Corner as code
+use Rattle.terms.specs.declared.refusals.Refusal.{Refusal}
+use Rattle.terms.specs.Papers.{refusal_paper}
+use Rattle.ring_checks.proofs.Laws.Steps.{not_answered, refused_then}
+use Rattle.fields.specs.Checks.{field_checked}
+use Rattle.fields.specs.OfRing.{ring_refusal}
+use Rattle.fields.specs.Laws.OfRing.{ring_refusal_is}
+use Rattle.job_state.specs.Gathered.{ring_of, ring_from, flat, inner_judged, joined_flat, apart_flat, beside_by, beside_flat, field_or_none}
+use Rattle.job_state.proofs.Flat.{corners_flat, checks_by, checks_flat, ring_within, first_part, second_part}
 use Rattle.job_state.proofs.Limits.{ring_length}
 use Rattle.job_state.proofs.Fields.{read_size}
 
@@ -134,63 +132,44 @@ module _ (r : List Corner) (good : any_bad r ≡ false) (few : length r ≤ 128)
 
 -- ---- the code's cases
 module _ (counts : List ℕ) (numbers ring : List ℤ) where
-  pub beside_apart : 0 < refusal_of (field_read counts numbers) → apart_flat ring ≡ beside_flat counts numbers ring
+  pub beside_apart : (r : Refusal) → refusal_paper r ≡ field_checked counts numbers → apart_flat ring ≡ beside_flat counts numbers ring
   unfolding beside_flat
-  beside_apart h = go (field_read counts numbers) h
+  beside_apart r h = go (field_read counts numbers) h
     where
-      go : (a : Answer Field) → 0 < refusal_of a → apart_flat ring ≡ beside_by a counts numbers ring
-      go (answered f) h = absurd (omega arith)
+      go : (a : Answer Field) → refusal_paper r ≡ (a >> answered passed) → apart_flat ring ≡ beside_by a counts numbers ring
+      go (answered f) h = absurd (not_answered r passed h)
       go (refused n) h = refl
       go (crossed_at pair) h = refl
 
-  pub beside_joined : (f : Field) → field_read counts numbers ≡ answered f → joined_flat counts numbers ring ≡ beside_flat counts numbers ring
+  pub beside_joined : answered passed ≡ field_checked counts numbers → joined_flat counts numbers ring ≡ beside_flat counts numbers ring
   unfolding beside_flat
-  beside_joined f e = sym (ap (λ (a : Answer Field). beside_by a counts numbers ring) e)
+  beside_joined h = go (field_read counts numbers) h
+    where
+      go : (a : Answer Field) → answered passed ≡ (a >> answered passed) → joined_flat counts numbers ring ≡ beside_by a counts numbers ring
+      go (answered f) h = refl
+      go (refused n) h = absurd (clash h)
+      go (crossed_at pair) h = absurd (let z : ◌≡◌ {A = ℕ} 0 1 = cc h in omega arith)
 
-  module _ {j : joins.FieldAnswer} (told : field_paper j ≡ join_answer counts numbers ring) where
-    -- what comes after it, by its case
-    by_join : (k : joins.FieldAnswer) → j ≡ k → (field_paper k >> area_answer ring) ≡ joined_flat counts numbers ring
-    unfolding joined_flat
-    by_join k e = ap (λ (x : Answer Passed). x >> area_answer ring) (sym (ap field_paper e) ∙ told)
-
-    pub accepted_joined : (p : judgement.Judged) → j ≡ join_case.Accepted → judged_paper p ≡ area_answer ring → judged_paper p ≡ joined_flat counts numbers ring
-    accepted_joined p e h = h ∙ by_join join_case.Accepted e
-
-    pub crossed_joined : {k l m looked : ℕ} → j ≡ join_case.Crossed k l m looked → crossed_at (record { ring = k; low = l; high = m; looked_at = looked }) ≡ joined_flat counts numbers ring
-    crossed_joined {k} {l} {m} {looked} e = by_join (join_case.Crossed k l m looked) e
-
-    pub refused_joined : {n : ℕ} → j ≡ join_case.Refused n → refused n ≡ joined_flat counts numbers ring
-    refused_joined {n} e = by_join (join_case.Refused n) e
-
-module _ (ring : List ℤ) {c : crossings.CrossingAnswer} (told : crossing_paper c ≡ crossing_answer ring) where
-  by_crossing : (k : crossings.CrossingAnswer) → c ≡ k → (in_ring 1 (crossing_paper k) >> refused badly_placed) ≡ apart_flat ring
+module _ (ring : List ℤ) where
+  pub clean_apart : {looked : ℕ} → answered looked ≡ crossing_answer ring → refused badly_placed ≡ apart_flat ring
   unfolding apart_flat
-  by_crossing k e = ap (λ (x : Answer ℕ). in_ring 1 x >> refused badly_placed) (sym (ap crossing_paper e) ∙ told)
+  clean_apart e = ap (λ (x : Answer ℕ). in_ring 1 x >> refused badly_placed) e
 
-  pub clean_apart : {looked : ℕ} → c ≡ crossing_case.Clean looked → refused badly_placed ≡ apart_flat ring
-  clean_apart {looked} e = by_crossing (crossing_case.Clean looked) e
-
-  pub crossed_apart : {l m looked : ℕ} → c ≡ crossing_case.Crossed l m looked → crossed_at (record { ring = 1; low = l; high = m; looked_at = looked }) ≡ apart_flat ring
-  crossed_apart {l} {m} {looked} e = by_crossing (crossing_case.Crossed l m looked) e
-
-  pub refused_apart : {n : ℕ} → c ≡ crossing_case.Refused n → refused n ≡ apart_flat ring
-  refused_apart {n} e = by_crossing (crossing_case.Refused n) e
+  pub refused_apart : (r : Refusal) {s : Refusal} → refusal_paper r ≡ crossing_answer ring → s ≡ ring_refusal 1 r → refusal_paper s ≡ apart_flat ring
+  unfolding apart_flat
+  refused_apart r e f = rw f (refused_then (ring_refusal 1 r) (refused badly_placed) (ring_refusal_is 1 r ∙ ap (in_ring 1) e))
 
 -- ---- the corners of the field and of the ring, laid out one after the other
 module _ (cs : List code.Corner) (counts : List ℕ) (rings start n : ℕ) (numbers : List ℤ) (long : length cs ≡ 3072) (held : length counts ≡ 17) (few_rings : rings ≤ 16) (room : start ≤ 2944) (few : n ≤ 128)
     (laid : take (2 * (start + n)) numbers ≡ flat (ring_of (start + n) cs)) where
-  pub judged_laid : beside_flat (take (rings - 0) counts) (take (2 * start) (take (2 * (start + n) - 0) numbers)) (drop (2 * start) (take (2 * (start + n) - 0) numbers))
+  pub judged_laid : beside_flat (take rings counts) (take (2 * start) (take (2 * (start + n)) numbers)) (drop (2 * start) (take (2 * (start + n)) numbers))
       ≡ inner_judged (field_or_none (field_read (take rings counts) (flat (ring_of start cs)))) (ring_from start n cs)
   judged_laid =
       let d = length-drop start cs in
       let l = length-take-le rings counts (omega arith) in
       let r = ring_length (drop start cs) n (omega arith) in
       let s = ring_length cs start (omega arith) in
-      ap (λ (w : List ℤ). beside_flat (take (rings - 0) counts) (take (2 * start) w) (drop (2 * start) w)) (part (2 * (start + n)) numbers laid)
-      ∙ ap (λ (k : ℕ). beside_flat (take k counts) (take (2 * start) (flat (ring_of (start + n) cs))) (drop (2 * start) (flat (ring_of (start + n) cs)))) (less rings)
+      ap (λ (w : List ℤ). beside_flat (take rings counts) (take (2 * start) w) (drop (2 * start) w)) laid
       ∙ ap (λ (a : List ℤ). beside_flat (take rings counts) a (drop (2 * start) (flat (ring_of (start + n) cs)))) (first_part start n cs s)
       ∙ ap (beside_flat (take rings counts) (flat (ring_of start cs))) (second_part start n cs s)
       ∙ judged_beside (ring_from start n cs) (ring_within n (drop start cs)) (omega arith) (take rings counts) (flat (ring_of start cs)) (omega arith)
-    where
-      less : (k : ℕ) → k - 0 ≡ k
-      less k = omega arith

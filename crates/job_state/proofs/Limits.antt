@@ -2,7 +2,7 @@
 use mathlib.Core.Path.{◌≡◌, refl, sym, ap, ◌∙◌}
 use mathlib.Core.Bool.{Bool, true, false}
 use mathlib.Core.List.{List, [], ◌∷◌, ◌++◌, map}
-use Prim.Native.Nat.{ℕ, suc, ◌+◌, ◌-◌, ◌*◌, ◌^◌, ◌≤◌, ◌<◌}
+use Prim.Native.Nat.{ℕ, suc, ◌+◌, ◌*◌, ◌^◌, ◌≤◌, ◌<◌}
 use native.Mathlib.Numerals.{add-one}
 use native.Mathlib.Omega.{arith}
 use borrow.Author.Tests.{lt-ltb, le-ltb, ltb-true, ltb-false, le-leb}
@@ -14,12 +14,11 @@ use lib.Signed.{lt_z}
 use mir.Syntax.{w64}
 use mir.Val.{to_z, of_z, SFits}
 use mir.Facts.{to_z-of_z}
-use Rattle.rules.specs.Rings.{Corner}
 use Rattle.rules.specs.Points.{above}
 use Rattle.rules.specs.RingAnswers.{number_bad}
-use Rattle.job_state.specs.declared.state.Corner as code
+use Rattle.terms.specs.declared.corners.Corner as code
 use Rattle.job_state.specs.Gathered.{chosen, within, at, corner_of, ring_of, ring_from, at_most}
-use Rattle.job_state.proofs.Flat.{map_append}
+use Rattle.std.proofs.lemmas.List.{map-append}
 
 -- ---- "a corner number outside ±10^10"
 limit : (n : ℕ) → ltb 9_999_999_999 n ≡ ltb (10 ^ 10) (suc n)
@@ -100,21 +99,18 @@ unfolding ring_of
 ring_length cs n h = length-map (take n cs) corner_of ∙ length-take-le n cs h
 
 -- parts of the arrays from their starts on, as they are lent
-less_none : (n : ℕ) → n - 0 ≡ n
-less_none n = omega arith
+pub counts_part : (l : List ℕ) (k rings : ℕ) → length l ≡ 17 → k ≡ at_most 17 rings → take k l ≡ take rings l
+counts_part l k rings held e = ap (λ (n : ℕ). take n l) e ∙ same_take l 17 rings held
 
-pub counts_part : (l : List ℕ) (k rings : ℕ) → length l ≡ 17 → k ≡ at_most 17 rings → take (k - 0) l ≡ take rings l
-counts_part l k rings held e = ap (λ (n : ℕ). take n l) (less_none k ∙ e) ∙ same_take l 17 rings held
-
-pub numbers_part : (l : List ℤ) (end total : ℕ) {r : List ℤ} → end ≡ 2 * at_most 3072 total → take (2 * at_most 3072 total) l ≡ r → take (end - 0) l ≡ r
-numbers_part l end total e h = ap (λ (n : ℕ). take n l) (less_none end ∙ e) ∙ h
+pub numbers_part : (l : List ℤ) (end total : ℕ) {r : List ℤ} → end ≡ 2 * at_most 3072 total → take (2 * at_most 3072 total) l ≡ r → take end l ≡ r
+numbers_part l end total e h = ap (λ (n : ℕ). take n l) e ∙ h
 
 -- ---- one corner more, stored behind the others
 one_corner_more : (cs : List code.Corner) (n : ℕ) (c : code.Corner) → n < length cs → number_bad c.x ≡ false → number_bad c.y ≡ false
     → ring_of (n + 1) (set cs n c) ≡ ring_of n cs ++ (at c.x c.y ∷ [])
 unfolding ring_of
 one_corner_more cs n c h hx hy =
-    ap (λ (k : ℕ). map corner_of (take k (set cs n c))) (add-one n) ∙ ap (map corner_of) (take-suc-set cs n c h) ∙ map_append corner_of (take n cs) (c ∷ [])
+    ap (λ (k : ℕ). map corner_of (take k (set cs n c))) (add-one n) ∙ ap (map corner_of) (take-suc-set cs n c h) ∙ map-append corner_of (take n cs) (c ∷ [])
     ∙ ap (λ (X : ℤ). map corner_of (take n cs) ++ (at X (within c.y) ∷ [])) (kept c.x hx)
     ∙ ap (λ (Y : ℤ). map corner_of (take n cs) ++ (at c.x Y ∷ [])) (kept c.y hy)
 
@@ -128,7 +124,3 @@ module _ (cs : List code.Corner) (start n : ℕ) (c : code.Corner) where
   pub rings_stay : ring_of start (set cs (start + n) c) ≡ ring_of start cs
   unfolding ring_of
   rings_stay = ap (map corner_of) (take-set-le start cs (start + n) c (omega arith))
-
--- the length of an array of structs, from that of their values
-pub unmapped : {A B : Type 0} (f : A → B) (l : List A) {n : ℕ} → length (map f l) ≡ n → length l ≡ n
-unmapped f l e = sym (length-map l f) ∙ e

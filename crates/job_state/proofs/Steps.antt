@@ -3,7 +3,7 @@
 use mathlib.Core.Path.{◌≡◌, refl, sym, ap, ◌∙◌, subst}
 use mathlib.Core.Bool.{Bool, true, false}
 use mathlib.Core.List.{List, [], ◌∷◌, ◌++◌}
-use Prim.Native.Nat.{ℕ, suc, ◌+◌, ◌-◌, ◌*◌, ◌^◌, ◌≤◌, ◌<◌}
+use Prim.Native.Nat.{ℕ, suc, ◌+◌, ◌*◌, ◌^◌, ◌≤◌, ◌<◌}
 use native.Mathlib.Numerals.{add-one}
 use native.Mathlib.Omega.{arith}
 use borrow.Author.Tests.{le-leb, lt-leb}
@@ -27,30 +27,34 @@ use Rattle.rules.specs.RingAnswers as nozzles
 use Rattle.rules.specs.RingAnswers.{number_bad, count_bad, span_bad, not_crossed}
 use Rattle.rules.specs.JobFile.{State, no_field, gathering, accepted, gathering_inner, Step, silent, print, begun, gathered, cornered, inner_cornered, closed, inner_closed, inner_begun, queried, pointed}
 use Rattle.rules.proofs.Laws.Codes.{known, unknown}
-use Rattle.projection.specs.declared.ForwardAnswer as projected
-use Rattle.projection.specs.declared.ForwardAnswer.TheVariants as projected_case
+use Rattle.std.specs.Prelude.{Result, Ok, Err}
+use Rattle.rules.specs.Refusals.{Passed, passed}
+use Rattle.terms.specs.declared.refusals.Refusal.{Refusal}
+use Rattle.terms.specs.declared.refusals.Refusal.TheVariants.{CodeUnknown, CornerCount, CornerNumber, OutOfPlace}
+use Rattle.terms.specs.declared.positions.Position.TheVariants.{Open, Border, Shut}
+use Rattle.terms.specs.Papers.{refusal_paper}
+use Rattle.terms.proofs.Refused.{refused_first}
+use Rattle.ring_checks.proofs.Laws.Steps.{not_answered}
+use Rattle.projection.specs.declared.Point as projected
 use Rattle.projection.specs.Answers.{forward_paper}
 use Rattle.records.specs.declared.Record as records
 use Rattle.records.specs.declared.Record.TheVariants as record_case
-use Rattle.ring_checks.specs.Refusal.{refusal_of}
-use Rattle.fields.specs.declared.FieldNozzle as place
-use Rattle.fields.specs.declared.FieldNozzle.TheVariants as located_case
-use Rattle.fields.specs.Answers.{field_nozzle_paper}
-use Rattle.job_state.specs.declared.ring.Judged as judgement
-use Rattle.job_state.specs.declared.ring.Judged.TheVariants as judged_case
+use Rattle.rings.specs.Answers.{nozzle_paper}
+use Rattle.fields.specs.Checks.{field_checked}
 use Rattle.job_state.specs.declared.state.Phase as phases
 use Rattle.job_state.specs.declared.state.Phase.TheVariants.{Idle, Gathering, Accepted, Inner}
-use Rattle.job_state.specs.declared.state.Position as positions
+use Rattle.terms.specs.declared.positions.Position as positions
 use Rattle.job_state.specs.declared.state.Answer as answers
 use Rattle.job_state.specs.declared.state.Answer.TheVariants as answer_case
-use Rattle.job_state.specs.declared.state.Answer.TheVariants.{Silent, Field, Nozzle, Point, Refused, Crossed}
+use Rattle.job_state.specs.declared.state.Answer.TheVariants.{Silent, Field, Nozzle, Point, Refused}
 use Rattle.job_state.specs.declared.state.Job.{Job}
 use Rattle.job_state.specs.declared.state.Taken.{Taken}
 use Rattle.job_state.proofs.Limits.{few, count_kept, no_room, below, take_length, counts_part, numbers_part, ring_length, same_ring, ring_more, rings_stay}
 use Rattle.job_state.proofs.Flat.{flat_append, flat_length, ring_split, ring_within, judged_passes}
 use Rattle.job_state.proofs.Fields.{read_size, read_more, read_one}
 use Rattle.job_state.proofs.Inner.{judged_joins}
-use Rattle.job_state.specs.Gathered.{chosen, at, at_most, ring_of, ring_from, flat, corner_refused, judged, inner_judged, field_or_none, judged_paper}
+use Rattle.job_state.proofs.Refusals.{by_refusal}
+use Rattle.job_state.specs.Gathered.{chosen, at, at_most, ring_of, ring_from, flat, corner_checked, judged, inner_judged, field_or_none, judged_paper}
 use Rattle.job_state.specs.States.{gathers, most, rings_before, starting, gathered_count, gathered_ring, field_of, field_before, accepted_by, view_by, view, line, paper, query_said, point_said, stepped, joined_job, after_record, left, Stepping}
 
 pub view_at : (j : Job) {p : phases.Phase} → j.phase ≡ p → view j ≡ view_by p j
@@ -59,8 +63,12 @@ view_at j e = ap (λ (p : phases.Phase). view_by p j) e
 pub stepping_at : {s t : rules.Answer Step} {i : records.Record} {j : Job} {r : Taken} → s ≡ t → Stepping t i j r → Stepping s i j r
 stepping_at e h = rw e h
 
-pub refusing : (n : ℕ) {i : records.Record} (j : Job) {r : Taken} → r.job ≡ j → r.answer ≡ Refused n → Stepping (refused n) i j r
-refusing n j e f = rw (e, f) (record { says = refl; leaves = refl })
+-- a refusal leaves the job as it was
+pub left_refused : (r : Refusal) (i : records.Record) (j : Job) → left (refusal_paper r) i j ≡ j
+left_refused r i j = by_refusal r (λ a. left a i j ≡ j) (λ n. refl) (λ pair. refl)
+
+pub refusing : (r : Refusal) {i : records.Record} (j : Job) {t : Taken} → t.job ≡ j → t.answer ≡ Refused r → Stepping (refusal_paper r) i j t
+refusing r {i} j e f = rw (e, f) (record { says = refl; leaves = sym (left_refused r i j) })
 
 -- signed arguments, read back from their bits
 pub read_back : (P : ℤ → ℤ → Type 0) (x y : ℤ) → SFits w64 x → SFits w64 y → P (to_z w64 (of_z w64 x)) (to_z w64 (of_z w64 y)) → P x y
@@ -159,27 +167,20 @@ module _ (f : ℕ → ℤ → ℤ → rules.Answer points.Point) (j : Job) where
       go Inner g = refl
 
   -- ---- kind 4, of an accepted field
-  open_query : (X Y : ℤ) (l : place.FieldNozzle) (a : rules.Answer fields.Field) → field_nozzle_paper l ≡ (a >>= λ g. answered (field_nozzle g (at X Y)))
+  open_query : (X Y : ℤ) (l : Result positions.Position Refusal) (a : rules.Answer fields.Field) → nozzle_paper l ≡ (a >>= λ g. answered (field_nozzle g (at X Y)))
       → paper (query_said l X Y) (accepted_by a) ≡ stepped f (accepted_by a) (record_case.Query X Y)
   unfolding queried line
-  open_query X Y located_case.Open (answered g) e = let n : field_nozzle g (at X Y) ≡ nozzles.open_nozzle = cc in rw n refl
-  open_query X Y located_case.Border (answered g) e = let n : field_nozzle g (at X Y) ≡ nozzles.border_nozzle = cc in rw n refl
-  open_query X Y located_case.Shut (answered g) e = let n : field_nozzle g (at X Y) ≡ nozzles.shut_nozzle = cc in rw n refl
-  open_query X Y (located_case.Refused n) (answered g) e = absurd (let z : ◌≡◌ {A = ℕ} 0 1 = cc in omega arith)
-  open_query X Y (located_case.Crossed k i l looked) (answered g) e = absurd (let z : ◌≡◌ {A = ℕ} 0 1 = cc in omega arith)
-  open_query X Y located_case.Open (refused m) e = absurd (let z : ◌≡◌ {A = ℕ} 0 1 = cc in omega arith)
-  open_query X Y located_case.Border (refused m) e = absurd (let z : ◌≡◌ {A = ℕ} 0 1 = cc in omega arith)
-  open_query X Y located_case.Shut (refused m) e = absurd (let z : ◌≡◌ {A = ℕ} 0 1 = cc in omega arith)
-  open_query X Y (located_case.Refused n) (refused m) e = refl
-  open_query X Y (located_case.Crossed k i l looked) (refused m) e = refl
-  open_query X Y located_case.Open (crossed_at pair) e = absurd (let z : ◌≡◌ {A = ℕ} 0 1 = cc in omega arith)
-  open_query X Y located_case.Border (crossed_at pair) e = absurd (let z : ◌≡◌ {A = ℕ} 0 1 = cc in omega arith)
-  open_query X Y located_case.Shut (crossed_at pair) e = absurd (let z : ◌≡◌ {A = ℕ} 0 1 = cc in omega arith)
-  open_query X Y (located_case.Refused n) (crossed_at pair) e = refl
-  open_query X Y (located_case.Crossed k i l looked) (crossed_at pair) e = refl
+  open_query X Y (Ok Open) (answered g) e = let n : field_nozzle g (at X Y) ≡ nozzles.open_nozzle = cc in rw n refl
+  open_query X Y (Ok Border) (answered g) e = let n : field_nozzle g (at X Y) ≡ nozzles.border_nozzle = cc in rw n refl
+  open_query X Y (Ok Shut) (answered g) e = let n : field_nozzle g (at X Y) ≡ nozzles.shut_nozzle = cc in rw n refl
+  open_query X Y (Err r) (answered g) e = absurd (not_answered r (field_nozzle g (at X Y)) e)
+  open_query X Y (Ok p) (refused m) e = absurd (let z : ◌≡◌ {A = ℕ} 0 1 = cc in omega arith)
+  open_query X Y (Err r) (refused m) e = refl
+  open_query X Y (Ok p) (crossed_at pair) e = absurd (let z : ◌≡◌ {A = ℕ} 0 1 = cc in omega arith)
+  open_query X Y (Err r) (crossed_at pair) e = refl
 
-  pub accepted_query : (X Y : ℤ) (l : place.FieldNozzle) (a : answers.Answer) → j.phase ≡ Accepted
-      → field_nozzle_paper l ≡ field_position_answer (take j.rings j.counts) (flat (ring_of j.total j.corners)) (at X Y) → a ≡ query_said l X Y
+  pub accepted_query : (X Y : ℤ) (l : Result positions.Position Refusal) (a : answers.Answer) → j.phase ≡ Accepted
+      → nozzle_paper l ≡ field_position_answer (take j.rings j.counts) (flat (ring_of j.total j.corners)) (at X Y) → a ≡ query_said l X Y
       → Stepping (stepped f (view j) (record_case.Query X Y)) (record_case.Query X Y) j (record { job = j; answer = a })
   unfolding field_position_answer
   accepted_query X Y l a e h g =
@@ -193,9 +194,9 @@ module _ (f : ℕ → ℤ → ℤ → rules.Answer points.Point) (j : Job) where
 
 -- ---- kind 1
 module _ (j : Job) (c : ℕ) where
-  pub no_system : ¬ ((1 ≤ c) × (c ≤ 14)) → {r : Taken} → r.job ≡ j → r.answer ≡ Refused 1 → Stepping (begun c) (record_case.Begin c) j r
+  pub no_system : ¬ ((1 ≤ c) × (c ≤ 14)) → {r : Taken} → r.job ≡ j → r.answer ≡ Refused CodeUnknown → Stepping (begun c) (record_case.Begin c) j r
   unfolding begun
-  no_system h e g = rw (unknown c h) (refusing 1 j e g)
+  no_system h e g = rw (unknown c h) (refusing CodeUnknown j e g)
 
   pub field_begun : 1 ≤ c → c ≤ 14 → Stepping (begun c) (record_case.Begin c) j (record { job = after_record (record_case.Begin c) j; answer = Silent })
   unfolding begun line ring_of
@@ -252,19 +253,25 @@ module _ (f : ℕ → ℤ → ℤ → rules.Answer points.Point) (p : phases.Pha
       by_phase Accepted e = absurd (let z : ◌≡◌ {A = ℕ} 0 1 = cc e in omega arith)
       by_phase Inner e = adds Inner (leb 128 (length (gathered_ring Inner j))) (number_bad X) (number_bad Y) (gathered_ring Inner j ++ (at X Y ∷ []))
 
-  pub corner_refuses : 0 < corner_refused (most p) j.count X Y
-      → Stepping (stepped f (view j) (record_case.Corner X Y)) (record_case.Corner X Y) j (record { job = j; answer = Refused (corner_refused (most p) j.count X Y) })
+  pub corner_refuses : (r : Refusal) → corner_checked (most p) j.count X Y ≡ Err r
+      → Stepping (stepped f (view j) (record_case.Corner X Y)) (record_case.Corner X Y) j (record { job = j; answer = Refused r })
   unfolding tested
-  corner_refuses h = stepping_at is_tested (go (leb (most p) j.count) (number_bad X) (number_bad Y) h)
+  corner_refuses r h = stepping_at is_tested (go (leb (most p) j.count) (number_bad X) (number_bad Y) h)
     where
-      go : (a b c : Bool) → 0 < chosen a corner_count (chosen b corner_number (chosen c corner_number 0))
-          → Stepping (tested a b c) (record_case.Corner X Y) j (record { job = j; answer = Refused (chosen a corner_count (chosen b corner_number (chosen c corner_number 0))) })
-      go true b c h = record { says = refl; leaves = refl }
-      go false true c h = record { says = refl; leaves = refl }
-      go false false true h = record { says = refl; leaves = refl }
-      go false false false h = absurd (omega arith)
+      because : {s : rules.Answer Step} {q : Refusal} → ◌≡◌ {A = Result Unit Refusal} (Err q) (Err r)
+          → Stepping s (record_case.Corner X Y) j (record { job = j; answer = Refused q }) → Stepping s (record_case.Corner X Y) j (record { job = j; answer = Refused r })
+      because {s} {q} e h =
+          let d : q ≡ r = cc e in
+          subst (λ (r : Refusal). Stepping s (record_case.Corner X Y) j (record { job = j; answer = Refused r })) d h
 
-  pub corner_stores : corner_refused (most p) j.count X Y ≡ 0
+      go : (a b c : Bool) → chosen {A = Result Unit Refusal} a (Err CornerCount) (chosen b (Err CornerNumber) (chosen c (Err CornerNumber) (Ok tt))) ≡ Err r
+          → Stepping (tested a b c) (record_case.Corner X Y) j (record { job = j; answer = Refused r })
+      go true b c h = because h (record { says = refl; leaves = refl })
+      go false true c h = because h (record { says = refl; leaves = refl })
+      go false false true h = because h (record { says = refl; leaves = refl })
+      go false false false h = absurd (let z : ◌≡◌ {A = ℕ} 0 1 = cc h in omega arith)
+
+  pub corner_stores : corner_checked (most p) j.count X Y ≡ Ok tt
       → (j.count < most p) × Stepping (stepped f (view j) (record_case.Corner X Y)) (record_case.Corner X Y) j (record { job = after_record (record_case.Corner X Y) j; answer = Silent })
   unfolding tested line state_with
   corner_stores h = go (leb (most p) j.count) refl (number_bad X) refl (number_bad Y) refl h
@@ -291,11 +298,11 @@ module _ (f : ℕ → ℤ → ℤ → rules.Answer points.Point) (p : phases.Pha
               (ap (λ (q : phases.Phase). ring_of (at_most 2944 j.total) (set j.corners (starting q j.total + j.count) (record { x = X; y = Y }))) e
               ∙ rings_stay j.corners (at_most 2944 j.total) j.count (record { x = X; y = Y }))
 
-      go : (a : Bool) → leb (most p) j.count ≡ a → (b : Bool) → number_bad X ≡ b → (c : Bool) → number_bad Y ≡ c → chosen a corner_count (chosen b corner_number (chosen c corner_number 0)) ≡ 0
+      go : (a : Bool) → leb (most p) j.count ≡ a → (b : Bool) → number_bad X ≡ b → (c : Bool) → number_bad Y ≡ c → chosen {A = Result Unit Refusal} a (Err CornerCount) (chosen b (Err CornerNumber) (chosen c (Err CornerNumber) (Ok tt))) ≡ Ok tt
           → (j.count < most p) × Stepping (stepped f (view j) (record_case.Corner X Y)) (record_case.Corner X Y) j (record { job = after_record (record_case.Corner X Y) j; answer = Silent })
-      go true ea b eb c ec h = absurd (omega arith)
-      go false ea true eb c ec h = absurd (omega arith)
-      go false ea false eb true ec h = absurd (omega arith)
+      go true ea b eb c ec h = absurd (let z : ◌≡◌ {A = ℕ} 0 1 = cc h in omega arith)
+      go false ea true eb c ec h = absurd (let z : ◌≡◌ {A = ℕ} 0 1 = cc h in omega arith)
+      go false ea false eb true ec h = absurd (let z : ◌≡◌ {A = ℕ} 0 1 = cc h in omega arith)
       go false ea false eb false ec h =
           let room = borrow.Author.Tests.leb-false (most p) j.count ea in (
             room,
@@ -304,20 +311,17 @@ module _ (f : ℕ → ℤ → ℤ → rules.Answer points.Point) (p : phases.Pha
           )
 
 -- ---- kind 3, by what is said of the ring that is closed
-module _ (j : Job) {s : rules.Answer Step} {a : rules.Answer ℤ} (prints : ℤ → rules.Answer Step) (is : s ≡ (a >>= prints)) {q : judgement.Judged} (told : judged_paper q ≡ a) where
-  by_judged : (k : judgement.Judged) → q ≡ k → s ≡ (judged_paper k >>= prints)
+module _ (j : Job) {s : rules.Answer Step} {a : rules.Answer ℤ} (prints : ℤ → rules.Answer Step) (is : s ≡ (a >>= prints)) {q : Result ℤ Refusal} (told : judged_paper q ≡ a) where
+  by_judged : (k : Result ℤ Refusal) → q ≡ k → s ≡ (judged_paper k >>= prints)
   by_judged k e = is ∙ ap (λ (x : rules.Answer ℤ). x >>= prints) (sym told ∙ ap judged_paper e)
 
-  pub refuses : {n : ℕ} → q ≡ judged_case.Refused n → {r : Taken} → r.job ≡ j → r.answer ≡ Refused n → Stepping s record_case.Close j r
-  refuses {n} e h g = stepping_at (by_judged (judged_case.Refused n) e) (refusing n j h g)
+  pub refuses : {r : Refusal} → q ≡ Err r → {t : Taken} → t.job ≡ j → t.answer ≡ Refused r → Stepping s record_case.Close j t
+  refuses {r} e h g = stepping_at (by_judged (Err r) e ∙ refused_first r prints) (refusing r j h g)
 
-  pub crosses : {k i l looked : ℕ} → q ≡ judged_case.Crossed k i l looked → Stepping s record_case.Close j (record { job = j; answer = Crossed k i l looked })
-  crosses {k} {i} {l} {looked} e = stepping_at (by_judged (judged_case.Crossed k i l looked) e) (record { says = refl; leaves = refl })
-
-  accepts : (k : ℤ) → q ≡ judged_case.Area k → (l : answers.Answer) {next : Job} → next ≡ after_record record_case.Close j → paper l (view next) ≡ prints k → (b : State) (t : List ℕ) → prints k ≡ print b t
+  accepts : (k : ℤ) → q ≡ Ok k → (l : answers.Answer) {next : Job} → next ≡ after_record record_case.Close j → paper l (view next) ≡ prints k → (b : State) (t : List ℕ) → prints k ≡ print b t
       → Stepping s record_case.Close j (record { job = next; answer = l })
   accepts k e l h g b t x =
-      stepping_at (by_judged (judged_case.Area k) e ∙ x) (record { says = g ∙ x; leaves = h })
+      stepping_at (by_judged (Ok k) e ∙ x) (record { says = g ∙ x; leaves = h })
 
 -- the rules' closing is what the judging says, and then a line
 module _ (c : ℕ) (r : List ring.Corner) where
@@ -375,7 +379,7 @@ module _ (f : ℕ → ℤ → ℤ → rules.Answer points.Point) (j : Job) (long
   pub outer_closes : stepped f (view j) record_case.Close ≡ (judged (gathered_ring Gathering j) >>= field_printed j.code (gathered_ring Gathering j))
   outer_closes = ap (λ (s : State). stepped f s record_case.Close) (view_at j is) ∙ closed_is j.code (gathered_ring Gathering j)
 
-  pub outer_accepts : {q : judgement.Judged} → judged_paper q ≡ judged (gathered_ring Gathering j) → (k l : ℤ) → q ≡ judged_case.Area k → l ≡ k → {next : Job}
+  pub outer_accepts : {q : Result ℤ Refusal} → judged_paper q ≡ judged (gathered_ring Gathering j) → (k l : ℤ) → q ≡ Ok k → l ≡ k → {next : Job}
       → next ≡ joined_job j 0 0 (gathered_count Gathering j)
       → Stepping (stepped f (view j) record_case.Close) record_case.Close j (record { job = next; answer = Field j.code (gathered_count Gathering j) l })
   unfolding field_printed flat ring_of
@@ -396,7 +400,7 @@ module _ (f : ℕ → ℤ → ℤ → rules.Answer points.Point) (j : Job) (long
   pub inner_closes : stepped f (view j) record_case.Close ≡ (inner_judged (field_before j) (gathered_ring Inner j) >>= inner_printed (field_before j) (gathered_ring Inner j))
   inner_closes = ap (λ (s : State). stepped f s record_case.Close) (view_at j is) ∙ inner_closed_is (field_before j) (gathered_ring Inner j)
 
-  pub inner_accepts : {q : judgement.Judged} → judged_paper q ≡ inner_judged (field_before j) (gathered_ring Inner j) → (k l : ℤ) → q ≡ judged_case.Area k → l ≡ k → {next : Job}
+  pub inner_accepts : {q : Result ℤ Refusal} → judged_paper q ≡ inner_judged (field_before j) (gathered_ring Inner j) → (k l : ℤ) → q ≡ Ok k → l ≡ k → {next : Job}
       → next ≡ joined_job j (rings_before Inner j.rings) (starting Inner j.total) (gathered_count Inner j)
       → Stepping (stepped f (view j) record_case.Close) record_case.Close j (record { job = next; answer = answer_case.Inner (rings_before Inner j.rings) (gathered_count Inner j) l })
   unfolding inner_printed
@@ -439,22 +443,28 @@ joined_as j {k} {start} {n} a b c =
     ∙ ap (joined_job j (rings_before Inner j.rings) (starting Inner j.total)) c
 
 -- ---- an inner ring is begun
-pub read_held : (j : Job) (k end : ℕ) (numbers : List ℤ) {n : ℕ} → length j.counts ≡ 17 → k ≡ at_most 17 j.rings → end ≡ 2 * at_most 3072 j.total
-    → take (2 * at_most 3072 j.total) numbers ≡ flat (ring_of j.total j.corners) → n ≡ refusal_of (field_read (take (k - 0) j.counts) (take (end - 0) numbers))
-    → n ≡ refusal_of (field_of j.rings j.total j)
+pub read_held : (j : Job) (k end : ℕ) (numbers : List ℤ) {a : rules.Answer Passed} → length j.counts ≡ 17 → k ≡ at_most 17 j.rings → end ≡ 2 * at_most 3072 j.total
+    → take (2 * at_most 3072 j.total) numbers ≡ flat (ring_of j.total j.corners) → a ≡ field_checked (take k j.counts) (take end numbers)
+    → a ≡ (field_of j.rings j.total j >> answered passed)
 read_held j k end numbers held a b laid h =
-    h ∙ ap (λ (cs : List ℕ). refusal_of (field_read cs (take (end - 0) numbers))) (counts_part j.counts k j.rings held a)
-    ∙ ap (λ (l : List ℤ). refusal_of (field_read (take j.rings j.counts) l)) (numbers_part numbers end j.total b laid)
+    h ∙ ap (λ (cs : List ℕ). field_checked cs (take end numbers)) (counts_part j.counts k j.rings held a)
+    ∙ ap (λ (l : List ℤ). field_checked (take j.rings j.counts) l) (numbers_part numbers end j.total b laid)
+
+-- rings that pass their checks are a field
+pub read_some : (a : rules.Answer fields.Field) → answered passed ≡ (a >> answered passed) → (g : fields.Field) × (a ≡ answered g)
+read_some (answered g) e = (g, refl)
+read_some (refused n) e = absurd (let z : ◌≡◌ {A = ℕ} 0 1 = cc e in omega arith)
+read_some (crossed_at pair) e = absurd (let z : ◌≡◌ {A = ℕ} 0 1 = cc e in omega arith)
 
 module _ (f : ℕ → ℤ → ℤ → rules.Answer points.Point) (j : Job) (long : length j.corners ≡ 3072) (held : length j.counts ≡ 17) (is : j.phase ≡ Accepted) where
   begins_by : {a : rules.Answer fields.Field} → field_of j.rings j.total j ≡ a → stepped f (view j) record_case.Inner ≡ stepped f (accepted_by a) record_case.Inner
   begins_by e = ap (λ (s : State). stepped f s record_case.Inner) (view_at j is ∙ ap accepted_by e)
 
-  pub inner_none : 0 < refusal_of (field_of j.rings j.total j) → stepped f (view j) record_case.Inner ≡ refused out_of_place
-  inner_none h = begins_by refl ∙ go (field_of j.rings j.total j) h
+  pub inner_none : (r : Refusal) → refusal_paper r ≡ (field_of j.rings j.total j >> answered passed) → stepped f (view j) record_case.Inner ≡ refused out_of_place
+  inner_none r h = begins_by refl ∙ go (field_of j.rings j.total j) h
     where
-      go : (a : rules.Answer fields.Field) → 0 < refusal_of a → stepped f (accepted_by a) record_case.Inner ≡ refused out_of_place
-      go (answered g) h = absurd (omega arith)
+      go : (a : rules.Answer fields.Field) → refusal_paper r ≡ (a >> answered passed) → stepped f (accepted_by a) record_case.Inner ≡ refused out_of_place
+      go (answered g) h = absurd (not_answered r passed h)
       go (refused n) h = refl
       go (crossed_at pair) h = refl
 
@@ -494,31 +504,31 @@ module _ (f : ℕ → ℤ → ℤ → rules.Answer points.Point) (j : Job) (long
 
 -- ---- kind 5
 module _ (c : ℕ) (B L : ℤ) where
-  pub point_by : (j : Job) (a : answers.Answer) (p : projected.ForwardAnswer) (w : rules.Answer points.Point) → a ≡ point_said p → forward_paper p ≡ w
+  pub point_by : (j : Job) (a : answers.Answer) (p : Result projected.Point Refusal) (w : rules.Answer points.Point) → a ≡ point_said p → forward_paper p ≡ w
       → Stepping (pointed (view j) w) (record_case.Point c B L) j (record { job = j; answer = a })
   unfolding pointed line
   point_by j a p w e h = record { says = ap (λ (a : answers.Answer). paper a (view j)) e ∙ said_by p h; leaves = sym (point_leaves (pointed (view j) w) c B L j) }
     where
-      said_by : (p : projected.ForwardAnswer) → forward_paper p ≡ w → paper (point_said p) (view j) ≡ pointed (view j) w
-      said_by (projected_case.Point X Y s d) h = rw (← h) refl
-      said_by (projected_case.Refused n) h = rw (← h) refl
+      said_by : (p : Result projected.Point Refusal) → forward_paper p ≡ w → paper (point_said p) (view j) ≡ pointed (view j) w
+      said_by (Ok p) h = rw (← h) refl
+      said_by (Err r) h = rw (← h) (sym (refused_first r _))
 
-pub point_is : {p : projected.ForwardAnswer} {X Y s c : ℤ} → p ≡ projected_case.Point X Y s c → mag X < 2 ^ 63 → mag Y < 2 ^ 63 → mag s < 2 ^ 63 → mag c < 2 ^ 63
-    → Point (to_z w64 (of_z w64 X)) (to_z w64 (of_z w64 Y)) (to_z w64 (of_z w64 s)) (to_z w64 (of_z w64 c)) ≡ point_said p
+pub point_is : {p : Result projected.Point Refusal} {q : projected.Point} → p ≡ Ok q → mag q.x < 2 ^ 63 → mag q.y < 2 ^ 63 → mag q.scale < 2 ^ 63 → mag q.convergence < 2 ^ 63
+    → Point (to_z w64 (of_z w64 q.x)) (to_z w64 (of_z w64 q.y)) (to_z w64 (of_z w64 q.scale)) (to_z w64 (of_z w64 q.convergence)) ≡ point_said p
 point_is e hx hy hs hc =
     rw (e, to_z-of_z (record { sfits = hx }), to_z-of_z (record { sfits = hy }), to_z-of_z (record { sfits = hs }), to_z-of_z (record { sfits = hc })) refl
 
-pub point_refused : {p : projected.ForwardAnswer} {n : ℕ} → p ≡ projected_case.Refused n → Refused n ≡ point_said p
+pub point_refused : {p : Result projected.Point Refusal} {r : Refusal} → p ≡ Err r → Refused r ≡ point_said p
 point_refused e = rw e refl
 
 -- ---- what the methods are made of
-pub nozzle_is : {l l' : place.FieldNozzle} {X Y : ℤ} (p : positions.Position) → l ≡ l' → query_said l' X Y ≡ Nozzle X Y p → SFits w64 X → SFits w64 Y
+pub nozzle_is : {l : Result positions.Position Refusal} {X Y : ℤ} {p : positions.Position} → l ≡ Ok p → SFits w64 X → SFits w64 Y
     → Nozzle (to_z w64 (of_z w64 X)) (to_z w64 (of_z w64 Y)) p ≡ query_said l X Y
-nozzle_is p e h f g = rw (e, to_z-of_z f, to_z-of_z g) (sym h)
+nozzle_is e f g = rw (e, to_z-of_z f, to_z-of_z g) refl
 
 pub of_item : (f : ℕ → ℤ → ℤ → rules.Answer points.Point) {i i' : records.Record} (s : State) {j : Job} {r : Taken} → i ≡ i'
     → Stepping (stepped f s i') i' j r → Stepping (stepped f s i) i j r
 of_item f s e h = rw e h
 
-pub none_accepted : {l l' : place.FieldNozzle} (X Y : ℤ) → l ≡ l' → query_said l' X Y ≡ Refused 13 → Refused 13 ≡ query_said l X Y
-none_accepted X Y e h = rw e (sym h)
+pub none_accepted : {l : Result positions.Position Refusal} {r : Refusal} (X Y : ℤ) → l ≡ Err r → Refused OutOfPlace ≡ query_said l X Y
+none_accepted X Y e = rw e refl

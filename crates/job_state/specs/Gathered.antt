@@ -1,15 +1,16 @@
 -- The corners as the rules' rings, and as the flat list that the ring and field calls take; what the checks of a corner and of a closed ring make of them.
 -- Assumes nothing.
-use Rattle.std.specs.Prelude.{Bool, true, false, List, [], ◌∷◌, map, ℕ, ◌^◌, ltb, leb, ℤ, pos, neg_ℤ, take, drop}
+use Rattle.std.specs.Prelude.{Bool, true, false, List, [], ◌∷◌, map, ℕ, ◌^◌, ltb, leb, ℤ, pos, neg_ℤ, take, drop, Result, Ok, Err}
 use Rattle.std.specs.Int.Signed.{lt_z}
-use Rattle.rules.specs.Refusals.{Answer, answered, refused, crossed_at, ◌>>◌, ◌if◌, in_ring, corner_count, corner_number, span_too_large, badly_placed}
+use Rattle.rules.specs.Refusals.{Answer, answered, refused, crossed_at, ◌>>◌, ◌if◌, in_ring, corner_count, span_too_large, badly_placed}
 use Rattle.rules.specs.Rings.{Corner, area2}
 use Rattle.rules.specs.RingAnswers.{number_bad, count_bad, span_bad, not_crossed, area_answer, crossing_answer}
 use Rattle.rules.specs.Fields.{Field}
 use Rattle.rules.specs.FieldAnswers.{alone, inner_count_bad, placed, field_read, join_answer}
-use Rattle.job_state.specs.declared.state.Corner as code
-use Rattle.job_state.specs.declared.ring.Judged as judgement
-use Rattle.job_state.specs.declared.ring.Judged.TheVariants as judged_case
+use Rattle.terms.specs.declared.corners.Corner as code
+use Rattle.terms.specs.declared.refusals.Refusal.{Refusal}
+use Rattle.terms.specs.declared.refusals.Refusal.TheVariants.{CornerCount, CornerNumber}
+use Rattle.terms.specs.Papers.{paper}
 
 -- a number past ±10^10, which no corner has that a job took in, is read as that limit
 abbrev pub chosen : {A : Type 0} → Bool → A → A → A
@@ -40,9 +41,9 @@ unfoldable pub flat : List Corner → List ℤ
 flat [] = []
 flat (c ∷ r) = c.x ∷ c.y ∷ flat r
 
--- ---- a corner's own record, of a ring of at most so many corners: 6 and 7, or 0 where it is taken
-abbrev pub corner_refused : ℕ → ℕ → ℤ → ℤ → ℕ
-corner_refused most count X Y = chosen (leb most count) corner_count (chosen (number_bad X) corner_number (chosen (number_bad Y) corner_number 0))
+-- ---- a corner's own record, of a ring of at most so many corners: 6 and 7, or that it is taken
+abbrev pub corner_checked : ℕ → ℕ → ℤ → ℤ → Result Unit Refusal
+corner_checked most count X Y = chosen (leb most count) (Err CornerCount) (chosen (number_bad X) (Err CornerNumber) (chosen (number_bad Y) (Err CornerNumber) (Ok tt)))
 
 -- ---- a ring that is closed: 6, 8, 9 (each corner's own record made check 7), and its doubled area
 unfoldable pub judged : List Corner → Answer ℤ
@@ -84,7 +85,5 @@ beside_by (crossed_at pair) counts numbers ring = apart_flat ring
 unfoldable pub beside_flat : List ℕ → List ℤ → List ℤ → Answer ℤ
 beside_flat counts numbers ring = beside_by (field_read counts numbers) counts numbers ring
 
-abbrev pub judged_paper : judgement.Judged → Answer ℤ
-judged_paper (judged_case.Area z) = answered z
-judged_paper (judged_case.Refused n) = refused n
-judged_paper (judged_case.Crossed k i j looked) = crossed_at (record { ring = k; low = i; high = j; looked_at = looked })
+abbrev pub judged_paper : Result ℤ Refusal → Answer ℤ
+judged_paper = paper (λ z. z)

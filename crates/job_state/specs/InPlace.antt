@@ -1,8 +1,9 @@
 -- What the functions of in_place promise. The job itself is not handed to them, only the few numbers of it that the answer rests on; so each says what a record
 -- makes of every job that has those numbers. Alike shows that this is what `Job::take` makes of it. Assumes nothing.
-use Rattle.std.specs.Prelude.{◌≡◌, Bool, true, false, List, ℕ, ◌<◌, ℤ, length, take}
+use Rattle.std.specs.Prelude.{◌≡◌, Bool, true, false, List, ℕ, ◌<◌, ℤ, length, take, Result, Ok, Err}
 use Rattle.rules.specs.JobFile.{pointed}
-use Rattle.projection.specs.Worked.{worked_forward}
+use Rattle.projection_worked.specs.Worked.{worked_forward}
+use Rattle.terms.specs.declared.refusals.Refusal.{Refusal}
 use Rattle.records.specs.declared.Record as records
 use Rattle.records.specs.declared.Record.TheVariants as record_case
 use Rattle.job_state.specs.declared.state.Phase as phases
@@ -33,12 +34,12 @@ pub record Lies (p : phases.Phase) (counts : List ℕ) (numbers : List ℤ) (j :
 pub record Answering (has : Job → Type 0) (i : records.Record) (a : answers.Answer) : Type 0 where
   pub steps : (j : Job) → has j → Stepping (stepped worked_forward (view j) i) i j (record { job = j; answer = a })
 
--- ---- kind 2: the refusal, or 0 where the corner is stored behind the others
-pub record Cornering (p : phases.Phase) (n : ℕ) (X Y : ℤ) (refusal : ℕ) : Type 0 where
-  pub room : refusal ≡ 0 → n < most p
-  pub stores : refusal ≡ 0 → (j : Job) → Counts p n j
+-- ---- kind 2: the refusal, or that the corner is stored behind the others
+pub record Cornering (p : phases.Phase) (n : ℕ) (X Y : ℤ) (checked : Result Unit Refusal) : Type 0 where
+  pub room : checked ≡ Ok tt → n < most p
+  pub stores : checked ≡ Ok tt → (j : Job) → Counts p n j
       → Stepping (stepped worked_forward (view j) (record_case.Corner X Y)) (record_case.Corner X Y) j (record { job = after_record (record_case.Corner X Y) j; answer = Silent })
-  pub refuses : 0 < refusal → Answering (Counts p n) (record_case.Corner X Y) (Refused refusal)
+  pub refuses : (refusal : Refusal) → checked ≡ Err refusal → Answering (Counts p n) (record_case.Corner X Y) (Refused refusal)
 
 -- ---- kind 5, where no field is gathered
 pub record Projecting (c : ℕ) (B L : ℤ) (a : answers.Answer) : Type 0 where
@@ -53,7 +54,7 @@ pub record Stands (p : phases.Phase) (n : ℕ) (laid_out : Bool) (counts : List 
 -- corners are not laid out yet; nothing is promised of a record that the job is to take
 abbrev pub Promised : records.Record → phases.Phase → ℕ → Bool → List ℕ → List ℤ → replies.Reply → Type 0
 Promised i p n laid_out counts numbers (Say a) = Answering (Stands p n laid_out counts numbers) i a
-Promised i p n laid_out counts numbers (Store X Y) = (i ≡ record_case.Corner X Y) × Cornering p n X Y 0
+Promised i p n laid_out counts numbers (Store X Y) = (i ≡ record_case.Corner X Y) × Cornering p n X Y (Ok tt)
 Promised i p n laid_out counts numbers LayOut = laid_out ≡ false
 Promised i p n laid_out counts numbers Take = Unit {0}
 

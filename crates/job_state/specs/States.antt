@@ -1,6 +1,6 @@
 -- The job's state as one of the rules' states, whatever the struct holds; the paper's number and values of each answer; what a record makes of a state, by the
 -- rules; and what it makes of the struct. Assumes nothing.
-use Rattle.std.specs.Prelude.{◌≡◌, Bool, true, false, List, [], ◌++◌, ℕ, ◌+◌, ℤ, pos, take, replicate, set}
+use Rattle.std.specs.Prelude.{◌≡◌, Bool, true, false, List, [], ◌++◌, ℕ, ◌+◌, ℤ, pos, take, replicate, set, Result, Ok, Err}
 use Rattle.rules.specs.Refusals as rules
 use Rattle.rules.specs.Refusals.{refused, crossed_at, out_of_place}
 use Rattle.rules.specs.Points as points
@@ -8,19 +8,19 @@ use Rattle.rules.specs.Rings.{Corner}
 use Rattle.rules.specs.Fields as fields
 use Rattle.rules.specs.FieldAnswers.{field_read}
 use Rattle.rules.specs.JobFile.{State, no_field, gathering, accepted, gathering_inner, Step, print, text, decimal, whole, begun, cornered, inner_cornered, closed, inner_closed, inner_begun, queried, pointed}
-use Rattle.projection.specs.declared.ForwardAnswer as projected
-use Rattle.projection.specs.declared.ForwardAnswer.TheVariants as projected_case
+use Rattle.terms.specs.declared.refusals.Refusal.{Refusal}
+use Rattle.terms.specs.declared.refusals.Refusal.TheVariants.{OutOfPlace}
+use Rattle.terms.specs.Papers.{refusal_paper}
+use Rattle.projection.specs.declared.Point as projected
 use Rattle.records.specs.declared.Record as records
 use Rattle.records.specs.declared.Record.TheVariants as record_case
-use Rattle.fields.specs.declared.FieldNozzle as place
-use Rattle.fields.specs.declared.FieldNozzle.TheVariants as located_case
 use Rattle.job_state.specs.declared.state.Phase as phases
 use Rattle.job_state.specs.declared.state.Phase.TheVariants.{Idle, Gathering, Accepted, Inner}
-use Rattle.job_state.specs.declared.state.Position as positions
-use Rattle.job_state.specs.declared.state.Position.TheVariants.{Open, Border, Shut}
+use Rattle.terms.specs.declared.positions.Position as positions
+use Rattle.terms.specs.declared.positions.Position.TheVariants.{Open, Border, Shut}
 use Rattle.job_state.specs.declared.state.Answer as answers
 use Rattle.job_state.specs.declared.state.Answer.TheVariants as answer_case
-use Rattle.job_state.specs.declared.state.Answer.TheVariants.{Silent, Field, Nozzle, Point, Refused, Crossed}
+use Rattle.job_state.specs.declared.state.Answer.TheVariants.{Silent, Field, Nozzle, Point, Refused}
 use Rattle.job_state.specs.declared.state.Job.{Job}
 use Rattle.job_state.specs.declared.state.Taken.{Taken}
 use Rattle.job_state.specs.Gathered.{at_most, ring_of, ring_from, flat, field_or_none}
@@ -92,8 +92,7 @@ line (Field c n a) = text "field " ++ decimal c ++ text " corners " ++ decimal n
 line (answer_case.Inner k n a) = text "inner " ++ decimal k ++ text " corners " ++ decimal n ++ text " area2 " ++ whole a ++ text "\n"
 line (Nozzle X Y p) = text "nozzle " ++ whole X ++ text " " ++ whole Y ++ text " " ++ word p ++ text "\n"
 line (Point X Y s c) = text "point " ++ whole X ++ text " " ++ whole Y ++ text " " ++ whole s ++ text " " ++ whole c ++ text "\n"
-line (Refused n) = []
-line (Crossed k i j looked) = []
+line (Refused r) = []
 
 -- the paper's answer: the state after the record with its line, or the refusal
 abbrev pub paper : answers.Answer → State → rules.Answer Step
@@ -102,19 +101,15 @@ paper (Field c n a) s = print s (line (Field c n a))
 paper (answer_case.Inner k n a) s = print s (line (answer_case.Inner k n a))
 paper (Nozzle X Y p) s = print s (line (Nozzle X Y p))
 paper (Point X Y k c) s = print s (line (Point X Y k c))
-paper (Refused n) s = refused n
-paper (Crossed k i j looked) s = crossed_at (record { ring = k; low = i; high = j; looked_at = looked })
+paper (Refused r) s = refusal_paper r
 
-abbrev pub query_said : place.FieldNozzle → ℤ → ℤ → answers.Answer
-query_said located_case.Open X Y = Nozzle X Y Open
-query_said located_case.Border X Y = Nozzle X Y Border
-query_said located_case.Shut X Y = Nozzle X Y Shut
-query_said (located_case.Crossed k i j looked) X Y = Refused out_of_place
-query_said (located_case.Refused n) X Y = Refused out_of_place
+abbrev pub query_said : Result positions.Position Refusal → ℤ → ℤ → answers.Answer
+query_said (Ok p) X Y = Nozzle X Y p
+query_said (Err r) X Y = Refused OutOfPlace
 
-abbrev pub point_said : projected.ForwardAnswer → answers.Answer
-point_said (projected_case.Point X Y s c) = Point X Y s c
-point_said (projected_case.Refused n) = Refused n
+abbrev pub point_said : Result projected.Point Refusal → answers.Answer
+point_said (Ok p) = Point p.x p.y p.scale p.convergence
+point_said (Err r) = Refused r
 
 -- ---- a record, by the rules: JobFile's `step`, of a record that has been read (`step_of_lem` of job's Whole shows them equal)
 module _ (forward_at : ℕ → ℤ → ℤ → rules.Answer points.Point) where

@@ -3,15 +3,15 @@
 ghost use Rattle.std.specs.Prelude.{◌≡◌, ◌+◌, ◌*◌, ◌<◌, length, take};
 ghost use Rattle.rules.specs.RingAnswers.{number_bad};
 ghost use Rattle.records.specs.declared.Record.TheVariants as record-case;
-ghost use Rattle.job_state.specs.Gathered.{at_most, flat, ring_of, corner_refused};
+ghost use Rattle.job_state.specs.Gathered.{at_most, flat, ring_of, corner_checked};
 ghost use Rattle.job_state.specs.States.{most, starting, point_said, query_said};
 ghost use Rattle.job_state.specs.InPlace.{In, Lies, Answering, Cornering, Projecting, CornerReplied, Replied};
 
 use crate::ring;
-use crate::state::{Answer, Corner, Phase, Position};
-use fields::FieldNozzle;
-use projection::ForwardAnswer;
+use crate::state::{Answer, Phase};
+use projection::Point;
 use records::Record;
+use terms::{Corner, Position, Refusal};
 
 // What is to be done where the job lies: an answer is given and the job stays as it is; a corner is stored behind the others, and nothing is answered; the corners
 // are laid out, and the record is asked again; or the job takes the record (`Job::take`).
@@ -35,9 +35,8 @@ pub fn reply_to(
     ensures { Replied item phase count laid counts.now numbers.now result }
 {
     match item {
-        Record::Begin(_) => Reply::Take,
+        Record::Begin(_) | Record::Close | Record::Inner => Reply::Take,
         Record::Corner(x, y) => corner_reply(phase, count, x, y),
-        Record::Close => Reply::Take,
         Record::Query(x, y) => {
             if laid {
                 return Reply::Say(query_answer(phase, counts, numbers, x, y));
@@ -45,18 +44,17 @@ pub fn reply_to(
             Reply::LayOut
         }
         Record::Point(code, b, l) => Reply::Say(point_answer(phase, code, b, l)),
-        Record::Inner => Reply::Take,
     }
 }
 
 fn corner_reply(phase: Phase, count: usize, x: i64, y: i64) -> Reply
     ensures { CornerReplied phase count x y result }
 {
-    let refusal = corner_refusal(phase, count, x, y);
-    if 0 < refusal {
-        return Reply::Say(Answer::Refused(refusal));
+    let checked = check_corner(phase, count, x, y);
+    match checked {
+        Ok(()) => Reply::Store(x, y),
+        Err(refusal) => Reply::Say(Answer::Refused(refusal)),
     }
-    Reply::Store(x, y)
 }
 
 // The corners of the accepted rings as a query takes them: X and Y in turn. This alone copies the corners, once for all queries of a field.
@@ -87,31 +85,27 @@ pub fn corner_place(phase: Phase, total: usize, count: usize) -> usize
     ring::starting(phase, total) + count
 }
 
-// Kind 2: the refusal, or 0 where the corner is to be stored behind the others.
-pub(crate) fn corner_refusal(phase: Phase, count: usize, x: i64, y: i64) -> u8
+// Kind 2: whether the corner is to be stored behind the others.
+pub(crate) fn check_corner(phase: Phase, count: usize, x: i64, y: i64) -> Result<(), Refusal>
     ensures { Cornering phase count x y result }
 {
     match phase {
-        Phase::Idle => 13,
-        Phase::Gathering => gathered_refusal(1024, count, x, y),
-        Phase::Accepted => 13,
-        Phase::Inner => gathered_refusal(128, count, x, y),
+        Phase::Idle | Phase::Accepted => Err(Refusal::OutOfPlace),
+        Phase::Gathering => check_gathered(1024, count, x, y),
+        Phase::Inner => check_gathered(128, count, x, y),
     }
 }
 
-fn gathered_refusal(most: usize, count: usize, x: i64, y: i64) -> u8
-    ensures { result ≡ corner_refused most count x y }
+fn check_gathered(most: usize, count: usize, x: i64, y: i64) -> Result<(), Refusal>
+    ensures { result ≡ corner_checked most count x y }
 {
     if most <= count {
-        return 6;
+        return Err(Refusal::CornerCount);
     }
-    if outside(x) {
-        return 7;
+    if outside(x) || outside(y) {
+        return Err(Refusal::CornerNumber);
     }
-    if outside(y) {
-        return 7;
-    }
-    0
+    Ok(())
 }
 
 // Kind 4: `counts` and `numbers` are the accepted rings.
@@ -119,10 +113,11 @@ pub(crate) fn query_answer(phase: Phase, counts: &[u32], numbers: &[i64], x: i64
     ensures { Answering (Lies phase counts.now numbers.now) (record-case.Query x y) result }
 {
     match phase {
-        Phase::Idle => Answer::Refused(13),
-        Phase::Gathering => Answer::Refused(13),
-        Phase::Accepted => nozzle_answer(fields::position(counts, numbers, x, y), x, y),
-        Phase::Inner => Answer::Refused(13),
+        Phase::Idle | Phase::Gathering | Phase::Inner => Answer::Refused(Refusal::OutOfPlace),
+        Phase::Accepted => {
+            let located = fields::position(counts, numbers, Corner { x, y });
+            nozzle_answer(located, x, y)
+        }
     }
 }
 
@@ -131,7 +126,7 @@ pub(crate) fn point_answer(phase: Phase, code: u8, b: i64, l: i64) -> Answer
     ensures { Answering (In phase) (record-case.Point code b l) result }
 {
     if ring::gathers(phase) {
-        return Answer::Refused(13);
+        return Answer::Refused(Refusal::OutOfPlace);
     }
     projected_answer(code, b, l)
 }
@@ -143,33 +138,27 @@ fn projected_answer(code: u8, b: i64, l: i64) -> Answer
     forward_answer(projected)
 }
 
-fn forward_answer(projected: ForwardAnswer) -> Answer
+fn forward_answer(projected: Result<Point, Refusal>) -> Answer
     ensures { result ≡ point_said projected }
 {
     match projected {
-        ForwardAnswer::Point(x, y, scale, convergence) => Answer::Point(x, y, scale, convergence),
-        ForwardAnswer::Refused(n) => Answer::Refused(n),
+        Ok(point) => Answer::Point(point.x, point.y, point.scale, point.convergence),
+        Err(refusal) => Answer::Refused(refusal),
     }
 }
 
 fn outside(z: i64) -> bool
     ensures { result ≡ number_bad z }
 {
-    if 10000000000 < z {
-        return true;
-    }
-    z < -10000000000
+    10000000000 < z || z < -10000000000
 }
 
 // Rings that the checks 6 and 8 refuse are no accepted field. Crossing and placing are not asked again.
-fn nozzle_answer(located: FieldNozzle, x: i64, y: i64) -> Answer
+fn nozzle_answer(located: Result<Position, Refusal>, x: i64, y: i64) -> Answer
     ensures { result ≡ query_said located x y }
 {
     match located {
-        FieldNozzle::Open => Answer::Nozzle(x, y, Position::Open),
-        FieldNozzle::Border => Answer::Nozzle(x, y, Position::Border),
-        FieldNozzle::Shut => Answer::Nozzle(x, y, Position::Shut),
-        FieldNozzle::Crossed(_, _, _, _) => Answer::Refused(13),
-        FieldNozzle::Refused(_) => Answer::Refused(13),
+        Ok(position) => Answer::Nozzle(x, y, position),
+        Err(_) => Answer::Refused(Refusal::OutOfPlace),
     }
 }

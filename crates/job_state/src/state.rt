@@ -2,21 +2,15 @@
 // A refusal hands back the state as it was. A state that is not as last handed back answers too: States.antt says which of the rules' states it stands for.
 ghost use Rattle.std.specs.Prelude.{◌≡◌, ◌≤◌};
 ghost use Rattle.rules.specs.JobFile.{begun};
-ghost use Rattle.projection.specs.Worked.{worked_forward};
+ghost use Rattle.projection_worked.specs.Worked.{worked_forward};
 ghost use Rattle.records.specs.declared.Record.TheVariants as record-case;
 ghost use Rattle.job_state.specs.States.{Stepping, RightStepping, new_job, joined_job, view, stepped};
 
-use crate::ring::Judged;
 use crate::{in_place, ring};
 use records::Record;
+use terms::{Corner, Position, Refusal};
 
-#[derive(Clone, Copy)]
-pub struct Corner {
-    pub x: i64,
-    pub y: i64,
-}
-
-#[derive(Clone, Copy)]
+#[derive(Clone, Copy, Debug, PartialEq, Eq)]
 pub enum Phase {
     Idle,
     Gathering,
@@ -25,7 +19,8 @@ pub enum Phase {
 }
 
 // The corners of the accepted rings one after the other, the outer ring first, and behind them those of the ring being gathered; how many corners each accepted
-// ring has; how many rings are accepted, and their corners in all; and how many corners are gathered so far.
+// ring has; how many rings are accepted, and their corners in all; and how many corners are gathered so far. Arrays of the most there can be, with counts beside them: the
+// library has no heap.
 #[derive(Clone, Copy)]
 pub struct Job {
     pub corners: [Corner; 3072],
@@ -37,14 +32,7 @@ pub struct Job {
     pub phase: Phase,
 }
 
-#[derive(Clone, Copy)]
-pub enum Position {
-    Open,
-    Border,
-    Shut,
-}
-
-// What a record is answered: nothing, a line's numbers, or a refusal.
+// What a record is answered: nothing, a line's numbers, or a refusal. No `Result`, because a refusal is one of the lines that a record prints.
 #[derive(Clone, Copy)]
 pub enum Answer {
     Silent,
@@ -52,8 +40,7 @@ pub enum Answer {
     Inner(usize, usize, i64),
     Nozzle(i64, i64, Position),
     Point(i64, i64, i64, i64),
-    Refused(u8),
-    Crossed(u64, u64, u64, u64),
+    Refused(Refusal),
 }
 
 #[derive(Clone, Copy)]
@@ -93,12 +80,12 @@ impl Job {
         }
     }
 
-    fn refused(self, n: u8) -> Taken
-        ensures { (result.job ≡ self) × (result.answer ≡ Answer.Refused n) }
+    fn refused(self, refusal: Refusal) -> Taken
+        ensures { (result.job ≡ self) × (result.answer ≡ Answer.Refused refusal) }
     {
         Taken {
             job: self,
-            answer: Answer::Refused(n),
+            answer: Answer::Refused(refusal),
         }
     }
 
@@ -106,9 +93,8 @@ impl Job {
     fn begin(self, code: u8) -> Taken
         ensures { Stepping (stepped worked_forward (view self) (record-case.Begin code)) (record-case.Begin code) self result }
     {
-        let phase = self.phase;
-        if ring::gathers(phase) {
-            return self.refused(13);
+        if ring::gathers(self.phase) {
+            return self.refused(Refusal::OutOfPlace);
         }
         self.begin_field(code)
     }
@@ -116,23 +102,17 @@ impl Job {
     fn begin_field(self, code: u8) -> Taken
         ensures { Stepping (begun code) (record-case.Begin code) self result }
     {
-        if code < 1 {
-            return self.refused(1);
+        if code < 1 || 14 < code {
+            return self.refused(Refusal::CodeUnknown);
         }
-        if 14 < code {
-            return self.refused(1);
-        }
-        let corners = self.corners;
-        let counts = self.counts;
         Taken {
             job: Job {
-                corners: corners,
-                counts: counts,
                 rings: 0,
                 total: 0,
                 count: 0,
-                code: code,
+                code,
                 phase: Phase::Gathering,
+                ..self
             },
             answer: Answer::Silent,
         }
@@ -142,19 +122,19 @@ impl Job {
     fn corner(self, x: i64, y: i64) -> Taken
         ensures { Stepping (stepped worked_forward (view self) (record-case.Corner x y)) (record-case.Corner x y) self result }
     {
-        let phase = self.phase;
-        let count = self.count;
-        let refusal = in_place::corner_refusal(phase, count, x, y);
-        if 0 < refusal {
-            return self.refused(refusal);
-        }
-        let place = in_place::corner_place(phase, self.total, count);
-        let mut next = self;
-        next.corners[place] = Corner { x: x, y: y };
-        next.count = count + 1;
-        Taken {
-            job: next,
-            answer: Answer::Silent,
+        let checked = in_place::check_corner(self.phase, self.count, x, y);
+        match checked {
+            Err(refusal) => self.refused(refusal),
+            Ok(()) => {
+                let place = in_place::corner_place(self.phase, self.total, self.count);
+                let mut next = self;
+                next.corners[place] = Corner { x, y };
+                next.count = self.count + 1;
+                Taken {
+                    job: next,
+                    answer: Answer::Silent,
+                }
+            }
         }
     }
 
@@ -162,11 +142,9 @@ impl Job {
     fn close(self) -> Taken
         ensures { Stepping (stepped worked_forward (view self) record-case.Close) record-case.Close self result }
     {
-        let phase = self.phase;
-        match phase {
-            Phase::Idle => self.refused(13),
+        match self.phase {
+            Phase::Idle | Phase::Accepted => self.refused(Refusal::OutOfPlace),
             Phase::Gathering => self.accept(),
-            Phase::Accepted => self.refused(13),
             Phase::Inner => self.accept_inner(),
         }
     }
@@ -175,20 +153,14 @@ impl Job {
         requires { self.phase ≡ Phase.Gathering }
         ensures { Stepping (stepped worked_forward (view self) record-case.Close) record-case.Close self result }
     {
-        let corners = self.corners;
-        let code = self.code;
         let count = ring::at_most(1024, self.count);
-        let judged = ring::judge(corners, count);
+        let judged = ring::judge(self.corners, count);
         match judged {
-            Judged::Area(area) => Taken {
+            Ok(area) => Taken {
                 job: self.with_ring(0, 0, count),
-                answer: Answer::Field(code, count, area),
+                answer: Answer::Field(self.code, count, area),
             },
-            Judged::Refused(n) => self.refused(n),
-            Judged::Crossed(number, low, high, looked) => Taken {
-                job: self,
-                answer: Answer::Crossed(number, low, high, looked),
-            },
+            Err(refusal) => self.refused(refusal),
         }
     }
 
@@ -196,22 +168,16 @@ impl Job {
         requires { self.phase ≡ Phase.Inner }
         ensures { Stepping (stepped worked_forward (view self) record-case.Close) record-case.Close self result }
     {
-        let corners = self.corners;
-        let counts = self.counts;
         let rings = ring::at_most(16, self.rings);
         let start = ring::at_most(2944, self.total);
         let count = ring::at_most(128, self.count);
-        let judged = ring::judge_inner(corners, counts, rings, start, count);
+        let judged = ring::judge_inner(self.corners, self.counts, rings, start, count);
         match judged {
-            Judged::Area(area) => Taken {
+            Ok(area) => Taken {
                 job: self.with_ring(rings, start, count),
                 answer: Answer::Inner(rings, count, area),
             },
-            Judged::Refused(n) => self.refused(n),
-            Judged::Crossed(number, low, high, looked) => Taken {
-                job: self,
-                answer: Answer::Crossed(number, low, high, looked),
-            },
+            Err(refusal) => self.refused(refusal),
         }
     }
 
@@ -220,17 +186,15 @@ impl Job {
         requires { (rings ≤ 16) × (start ≤ 2944) × (count ≤ 1024) }
         ensures { result ≡ joined_job self rings start count }
     {
-        let corners = self.corners;
         let mut counts = self.counts;
         counts[rings] = count as u32;
         Job {
-            corners: corners,
-            counts: counts,
+            counts,
             rings: rings + 1,
             total: start + count,
             count: 0,
-            code: self.code,
             phase: Phase::Accepted,
+            ..self
         }
     }
 
@@ -238,15 +202,18 @@ impl Job {
     fn query(self, x: i64, y: i64) -> Taken
         ensures { Stepping (stepped worked_forward (view self) (record-case.Query x y)) (record-case.Query x y) self result }
     {
-        let corners = self.corners;
-        let counts = self.counts;
-        let phase = self.phase;
         let rings = in_place::counts_held(self.rings);
         let end = in_place::numbers_held(self.total);
-        let numbers = in_place::lay_out(corners, self.total);
+        let numbers = in_place::lay_out(self.corners, self.total);
         Taken {
             job: self,
-            answer: in_place::query_answer(phase, &counts[0..rings], &numbers[0..end], x, y),
+            answer: in_place::query_answer(
+                self.phase,
+                &self.counts[..rings],
+                &numbers[..end],
+                x,
+                y,
+            ),
         }
     }
 
@@ -254,10 +221,9 @@ impl Job {
     fn point(self, code: u8, b: i64, l: i64) -> Taken
         ensures { Stepping (stepped worked_forward (view self) (record-case.Point code b l)) (record-case.Point code b l) self result }
     {
-        let phase = self.phase;
         Taken {
             job: self,
-            answer: in_place::point_answer(phase, code, b, l),
+            answer: in_place::point_answer(self.phase, code, b, l),
         }
     }
 
@@ -265,13 +231,10 @@ impl Job {
     fn inner(self) -> Taken
         ensures { Stepping (stepped worked_forward (view self) record-case.Inner) record-case.Inner self result }
     {
-        let phase = self.phase;
-        match phase {
-            Phase::Idle => self.refused(13),
-            Phase::Gathering => self.refused(13),
-            Phase::Accepted => self.begin_inner(),
-            Phase::Inner => self.refused(13),
+        if self.phase != Phase::Accepted {
+            return self.refused(Refusal::OutOfPlace);
         }
+        self.begin_inner()
     }
 
     // Stored rings that are no field, which no job hands back, are refused as no field is.
@@ -279,30 +242,25 @@ impl Job {
         requires { self.phase ≡ Phase.Accepted }
         ensures { Stepping (stepped worked_forward (view self) record-case.Inner) record-case.Inner self result }
     {
-        let corners = self.corners;
-        let counts = self.counts;
-        let code = self.code;
         let rings = in_place::counts_held(self.rings);
         let end = in_place::numbers_held(self.total);
-        let numbers = in_place::lay_out(corners, self.total);
-        let refusal = fields::refusal(&counts[0..rings], &numbers[0..end]);
-        if 0 < refusal {
-            return self.refused(13);
-        }
-        if 16 < rings {
-            return self.refused(16);
-        }
-        Taken {
-            job: Job {
-                corners: corners,
-                counts: counts,
-                rings: self.rings,
-                total: self.total,
-                count: 0,
-                code: code,
-                phase: Phase::Inner,
-            },
-            answer: Answer::Silent,
+        let numbers = in_place::lay_out(self.corners, self.total);
+        let checked = fields::check(&self.counts[..rings], &numbers[..end]);
+        match checked {
+            Err(_) => self.refused(Refusal::OutOfPlace),
+            Ok(()) => {
+                if 16 < rings {
+                    return self.refused(Refusal::TooManyRings);
+                }
+                Taken {
+                    job: Job {
+                        count: 0,
+                        phase: Phase::Inner,
+                        ..self
+                    },
+                    answer: Answer::Silent,
+                }
+            }
         }
     }
 }

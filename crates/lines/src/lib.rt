@@ -1,7 +1,8 @@
 // The lines that the field program prints: a line is built up by value, text and decimal numbers after one another, and then copied into a lent buffer.
+// Not by `write!`: the promise is the rules' bytes (`decimal`, `said`), and each step here says which of them stand in the line.
 #![tactic(auto)]
 
-ghost use Rattle.std.specs.Prelude.{◌≡◌, [], ◌+◌, ◌≤◌, ◌<◌, length, drop, nat_abs};
+ghost use Rattle.std.specs.Prelude.{◌≡◌, [], ◌+◌, ◌≤◌, ◌<◌, length, drop};
 ghost use Rattle.rules.specs.JobFile.{decimal, whole};
 ghost use Rattle.lines.specs.Said.{said, Longer, pasted};
 
@@ -12,7 +13,7 @@ struct Digits {
     at: usize,
 }
 
-// A line so far: the first `count` bytes. No line of the program has more than 128.
+// A line so far: the first `count` bytes. No line of the program has more than 128. An array of the most there can be, with a count beside it: the library has no heap.
 #[derive(Clone, Copy)]
 pub struct Line {
     pub bytes: [u8; 128],
@@ -26,26 +27,13 @@ fn spell(n: u64) -> Digits
     digits[19] = 48 + (n % 10) as u8;
     let mut rest = n / 10;
     let mut at: usize = 19;
+    // No `for`: how many places there are to go is known where nothing is left of the number.
     while rest > 0 {
         at -= 1;
         digits[at] = 48 + (rest % 10) as u8;
         rest /= 10;
     }
-    Digits {
-        bytes: digits,
-        at: at,
-    }
-}
-
-// How far a whole number is from 0; -2^63 is as far as any.
-fn size(z: i64) -> u64
-    ensures { result ≡ nat_abs z }
-{
-    if z < 0 {
-        let below = -1 - z;
-        return below as u64 + 1;
-    }
-    z as u64
+    Digits { bytes: digits, at }
 }
 
 impl Line {
@@ -64,13 +52,9 @@ impl Line {
         ensures { Longer self text.now result }
     {
         let from = self.count;
-        let mut j: usize = 0;
-        while j < text.len() {
-            let at = from + j;
-            self.bytes[at] = text[j];
-            j += 1;
-        }
-        self.count = from + j;
+        let end = from + text.len();
+        self.bytes[from..end].copy_from_slice(text);
+        self.count = end;
         self
     }
 
@@ -91,9 +75,9 @@ impl Line {
         ensures { (result.count ≤ self.count + 21) × Longer self (whole z) result }
     {
         if z < 0 {
-            return self.with(b"-").with_number(size(z));
+            return self.with(b"-").with_number(z.unsigned_abs());
         }
-        self.with_number(size(z))
+        self.with_number(z.unsigned_abs())
     }
 
     // Copies the line into `out` from `at` on, and answers the place after it; the other places keep what they held.
@@ -101,12 +85,8 @@ impl Line {
         requires { (self.count ≤ 128) × (at + self.count ≤ length out.old) }
         ensures { (result ≡ at + length (said self)) × (out.new ≡ pasted at (said self) out.old) }
     {
-        let n = self.count;
-        let mut j: usize = 0;
-        while j < n {
-            out[at + j] = self.bytes[j];
-            j += 1;
-        }
-        at + n
+        let end = at + self.count;
+        out[at..end].copy_from_slice(&self.bytes[..self.count]);
+        end
     }
 }

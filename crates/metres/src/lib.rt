@@ -37,7 +37,7 @@ pub fn arguments(north: i64, east: i64) -> Pair
     }
 }
 
-// digits * 2^up units of 2^-1074, in whole ones, gone down.
+// digits * 2^up units of 2^-1074, in whole ones, gone down. By the bits, as in `scaled`: the library has nothing that says what digits a double has.
 fn shifted(digits: u64, up: u64) -> u64
     requires { (digits < 2 ^ 53) × (up < 1086) × (digits * 2 ^ up < 2 ^ 64 * double_unit) }
     ensures { result ≡ digits * 2 ^ up / double_unit }
@@ -95,13 +95,13 @@ pub fn millimetres(x: u64, short: u64, per: u64) -> u64
     )
 }
 
-// p metres times m0, in whole millimetres, with the sign of p.
+// p metres times m0, in whole millimetres, with the sign of p. `per` is a parameter, although the projection has 1000 alone: the promise is of every m0 that `Fits`.
 pub fn millimetres_of(p: f64, short: u64, per: u64) -> i64
     requires { Number p × (nat_abs (value p) < 2 ^ 44 * double_unit) × Fits (truncated 20 (value p)) short per }
     ensures { result ≡ in_millimetres (value p) short per }
 {
     let n = millimetres(scaled(p, 20), short, per);
-    if f64::to_bits(p) >= 9223372036854775808 {
+    if p.is_sign_negative() {
         0 - (n as i64)
     } else {
         n as i64

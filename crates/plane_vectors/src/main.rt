@@ -2,10 +2,8 @@
 // for each source code: how many points were answered, lie outside the band or were refused, and the largest distances in thousandths of a unit.
 #![tactic(auto)]
 
-use projection::PlaneAnswer;
 use std::io;
-use std::io::Read;
-use vectors::{Groups, Outcome};
+use vectors::Outcome;
 
 fn outcome_of(record: &[u8]) -> Outcome {
     let answer = conversion::plane_to_plane(
@@ -15,32 +13,11 @@ fn outcome_of(record: &[u8]) -> Outcome {
         vectors::nth_number(record, 2),
     );
     match answer {
-        PlaneAnswer::At(x, y) => vectors::outcome_of_two(record, x, y),
-        PlaneAnswer::Refused(refusal) => Outcome::Refused(refusal as u64),
+        Ok(corner) => Ok(vectors::distances(record, [corner.x, corner.y, 0, 0])),
+        Err(refusal) => Err(refusal.number() as u64),
     }
-}
-
-// The run with the next record, or `None` where the input ends.
-fn one_record<R: Read>(
-    rt: &impl Print,
-    input: &mut R,
-    groups: Groups,
-) -> io::Result<Option<Groups>> {
-    let Some(record) = vectors::read_record::<64, R>(input)? else {
-        return Ok(None);
-    };
-    let outcome = outcome_of(&record);
-    Ok(Some(groups.with(rt, b"plane", &record, outcome)?))
 }
 
 fn main(rt: HostRuntime) -> io::Result<()> {
-    let mut input = rt.reader();
-    let mut groups = Groups::new(vectors::PLANE_BAND);
-    for _ in 0..1000000u64 {
-        match one_record(&rt, &mut input, groups)? {
-            Some(more) => groups = more,
-            None => return groups.close(&rt, b"plane"),
-        }
-    }
-    Ok(())
+    vectors::hold_records(&rt, "plane", vectors::PLANE_BAND, outcome_of)
 }

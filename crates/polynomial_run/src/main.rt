@@ -3,21 +3,14 @@
 // first and second part of the value in multiples of 2^-40 m plus 2^63; but a derivative's second part, which is small and nearer, in multiples of 2^-50 m plus 2^63.
 #![tactic(auto)]
 
-ghost use Rattle.std.specs.Prelude.{◌+◌, ◌*◌, ◌^◌, ◌≤◌, ◌<◌, nat_abs, ◌≡◌};
-ghost use Rattle.double.specs.Value.{Number, finite};
+ghost use Rattle.std.specs.Prelude.{◌+◌, ◌*◌, ◌^◌, ◌≤◌, ◌<◌, nat_abs};
+ghost use Rattle.double.specs.Value.{Number};
 
 use double::{Pair, series};
 use std::io;
-use std::io::{ErrorKind, Read};
-
-// The number that starts at byte `at`, the lowest byte first.
-fn word(s: &[u8; 40], at: usize) -> u64
-    requires { at ≤ 32 }
-{
-    let mut word = [0u8; 8];
-    word.copy_from_slice(&s[at..at + 8]);
-    u64::from_le_bytes(word)
-}
+use std::io::Read;
+use terms::Ellipsoid;
+use vectors::{nth_word, read_record};
 
 // a - 2^50, for an a below 2^51; 0 for any other.
 fn centred(a: u64) -> i64
@@ -37,39 +30,34 @@ fn ten(z: Pair) -> Pair {
     double::polynomial(&c, z)
 }
 
-fn answer(table: u64, z: Pair) -> Pair {
-    if table == 0 {
-        return series::forward_grs80(z);
-    }
-    if table == 1 {
-        return series::derivative_grs80(z);
-    }
-    if table == 2 {
-        return series::inverse_grs80(z);
-    }
-    if table == 3 {
-        return series::forward_krasovsky(z);
-    }
-    if table == 4 {
-        return series::derivative_krasovsky(z);
-    }
-    if table == 5 {
-        return series::inverse_krasovsky(z);
-    }
-    ten(z)
+// A table: of an ellipsoid, or the ten coefficients.
+#[derive(Clone, Copy)]
+enum Table {
+    Forward(Ellipsoid),
+    Derivative(Ellipsoid),
+    Inverse(Ellipsoid),
+    Ten,
 }
 
-// Which multiples the second part is told in.
-fn second_power(table: u64) -> u64
-    ensures { (15 ≤ result) × (result ≤ 50) }
-{
-    if table == 1 {
-        return 50;
+impl Table {
+    fn answer(self, z: Pair) -> Pair {
+        match self {
+            Table::Forward(ellipsoid) => series::forward(ellipsoid, z),
+            Table::Derivative(ellipsoid) => series::derivative(ellipsoid, z),
+            Table::Inverse(ellipsoid) => series::inverse(ellipsoid, z),
+            Table::Ten => ten(z),
+        }
     }
-    if table == 4 {
-        return 50;
+
+    // Which multiples the second part is told in.
+    fn second_power(self) -> u64
+        ensures { (15 ≤ result) × (result ≤ 50) }
+    {
+        match self {
+            Table::Derivative(_) => 50,
+            _ => 40,
+        }
     }
-    40
 }
 
 // x in multiples of 2^-power plus 2^63; 0 where that many are 2^63 or more in size.
@@ -91,18 +79,11 @@ fn placed_number(x: f64, power: u64) -> u64
     }
 }
 
-// Whether x is neither a NaN nor an infinity: x - x is 0 for every other number, and a NaN for those.
-fn is_finite(x: f64) -> bool
-    ensures { result ≡ finite x }
-{
-    x - x == 0.0
-}
-
 // The same of any x: 0 where it is not finite.
 fn placed(x: f64, power: u64) -> u64
     requires { power ≤ 50 }
 {
-    if is_finite(x) {
+    if x.is_finite() {
         placed_number(x, power)
     } else {
         0
@@ -126,64 +107,78 @@ fn error(x: f64, exact: u64, power: u64) -> u64
     told(placed(x, power).abs_diff(exact), power)
 }
 
-// Counts the record for its table and keeps the largest error of each part.
-fn note(bytes: &[u8; 40], points: &mut [u64; 7], first: &mut [u64; 7], second: &mut [u64; 7]) {
-    let table = word(bytes, 0);
-    let at = table as usize;
-    if at < 7 {
-        let z = metres::arguments(centred(word(bytes, 8)), centred(word(bytes, 16)));
-        let p = answer(table, z);
-        first[at] = first[at].max(error(p.re, word(bytes, 24), 40));
-        second[at] = second[at].max(error(p.im, word(bytes, 32), second_power(table)));
-        points[at] = points[at] % 1000000 + 1;
-    }
+// A table, how many points there were of it, and the largest error of each part.
+#[derive(Drop)]
+struct Tally {
+    name: &'static str,
+    table: Table,
+    points: u64,
+    first: u64,
+    second: u64,
 }
 
-// Reads the next record; false where the input ends before it does.
-fn read_one<R: Read>(input: &mut R, bytes: &mut [u8; 40]) -> io::Result<bool> {
-    match input.read_exact(bytes) {
-        Ok(()) => Ok(true),
-        Err(e) if e.kind() == ErrorKind::UnexpectedEof => Ok(false),
-        Err(e) => Err(e),
-    }
-}
-
-fn run<R: Read>(
-    input: &mut R,
-    points: &mut [u64; 7],
-    first: &mut [u64; 7],
-    second: &mut [u64; 7],
-) -> io::Result<()> {
-    let mut bytes = [0u8; 40];
-    for _ in 0..1000000u64 {
-        if !read_one(input, &mut bytes)? {
-            break;
+impl Tally {
+    fn new(name: &'static str, table: Table) -> Tally {
+        Tally {
+            name,
+            table,
+            points: 0,
+            first: 0,
+            second: 0,
         }
-        note(&bytes, points, first, second);
+    }
+
+    // Counts a record of the table.
+    fn count(&mut self, record: &[u8]) {
+        let z = metres::arguments(centred(nth_word(record, 1)), centred(nth_word(record, 2)));
+        let p = self.table.answer(z);
+        self.first = self.first.max(error(p.re, nth_word(record, 3), 40));
+        self.second = self.second.max(error(p.im, nth_word(record, 4), self.table.second_power()));
+        self.points = self.points % 1000000 + 1;
+    }
+
+    fn tell(&self, rt: &impl Print) -> io::Result<()> {
+        let Tally {
+            name,
+            points,
+            first,
+            second,
+            ..
+        } = self;
+        println!(rt; "{name} points {points} first {first} second {second} of 10^-15 m")
+    }
+}
+
+// Counts each record for the table that it names by its number, and passes by those that name none.
+fn run<R: Read>(input: &mut R, tallies: &mut [Tally; 7]) -> io::Result<()> {
+    // A count, because every loop has to end; no input of the gate is so long.
+    for _ in 0..1000000u64 {
+        let Some(record) = read_record::<40, R>(input)? else {
+            break;
+        };
+        if let Some(tally) = tallies.get_mut(nth_word(&record, 0) as usize) {
+            tally.count(&record);
+        }
     }
     Ok(())
 }
 
-fn line(rt: &impl Print, name: &str, points: u64, first: u64, second: u64) -> io::Result<()> {
-    println!(rt; "{name} points {points} first {first} second {second} of 10^-15 m")
-}
-
 fn main(rt: HostRuntime) -> io::Result<()> {
-    let mut points = [0u64; 7];
-    let mut first = [0u64; 7];
-    let mut second = [0u64; 7];
-    run(&mut rt.reader(), &mut points, &mut first, &mut second)?;
-    let names = [
-        "forward_grs80",
-        "derivative_grs80",
-        "inverse_grs80",
-        "forward_krasovsky",
-        "derivative_krasovsky",
-        "inverse_krasovsky",
-        "ten",
+    let mut tallies = [
+        Tally::new("forward_grs80", Table::Forward(Ellipsoid::Grs80)),
+        Tally::new("derivative_grs80", Table::Derivative(Ellipsoid::Grs80)),
+        Tally::new("inverse_grs80", Table::Inverse(Ellipsoid::Grs80)),
+        Tally::new("forward_krasovsky", Table::Forward(Ellipsoid::Krasovsky)),
+        Tally::new(
+            "derivative_krasovsky",
+            Table::Derivative(Ellipsoid::Krasovsky),
+        ),
+        Tally::new("inverse_krasovsky", Table::Inverse(Ellipsoid::Krasovsky)),
+        Tally::new("ten", Table::Ten),
     ];
-    for (k, name) in names.iter().enumerate() {
-        line(&rt, name, points[k], first[k], second[k])?;
+    run(&mut rt.reader(), &mut tallies)?;
+    for tally in &tallies {
+        tally.tell(&rt)?;
     }
     Ok(())
 }

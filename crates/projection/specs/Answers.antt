@@ -1,17 +1,19 @@
--- The paper's number and values for each case of the code's answers. Assumes nothing.
-use Rattle.rules.specs.Refusals.{Answer, answered, refused}
-use Rattle.rules.specs.Points.{Point}
-use Rattle.rules.specs.Rings.{Corner}
-use Rattle.projection.specs.declared.ForwardAnswer.{ForwardAnswer}
-use Rattle.projection.specs.declared.ForwardAnswer.TheVariants as forward_case
-use Rattle.projection.specs.declared.PlaneAnswer.{PlaneAnswer}
-use Rattle.projection.specs.declared.PlaneAnswer.TheVariants as plane_case
+-- What the projection's answers say: the paper's values, or its refusal. Assumes nothing.
+use Rattle.std.specs.Prelude.{Result}
+use Rattle.rules.specs.Refusals.{Answer}
+use Rattle.rules.specs.Points as Points
+use Rattle.rules.specs.Rings as Rings
+use Rattle.terms.specs.Papers.{paper, corner_of}
+use Rattle.terms.specs.declared.corners.Corner.{Corner}
+use Rattle.terms.specs.declared.refusals.Refusal.{Refusal}
+use Rattle.projection.specs.declared.Point.{Point}
 pub use Rattle.projection_inverse.specs.Answers.{inverse_paper}
 
-abbrev pub forward_paper : ForwardAnswer → Answer Point
-forward_paper (forward_case.Point X Y scale convergence) = answered (record { X = X; Y = Y; scale = scale; convergence = convergence })
-forward_paper (forward_case.Refused n) = refused n
+abbrev pub point_of : Point → Points.Point
+point_of p = record { X = p.x; Y = p.y; scale = p.scale; convergence = p.convergence }
 
-abbrev pub plane_paper : PlaneAnswer → Answer Corner
-plane_paper (plane_case.At X Y) = answered (record { x = X; y = Y })
-plane_paper (plane_case.Refused n) = refused n
+abbrev pub forward_paper : Result Point Refusal → Answer Points.Point
+forward_paper = paper point_of
+
+abbrev pub plane_paper : Result Corner Refusal → Answer Rings.Corner
+plane_paper = paper corner_of

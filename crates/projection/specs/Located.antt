@@ -1,9 +1,12 @@
 -- What the code knows of a point that is taken, and what it holds of it. Assumes nothing.
-use Rattle.std.specs.Prelude.{Bool, true, false, ◌≡◌, ℕ, ◌*◌, ◌/◌, ◌≤◌, ℤ, nat_abs, ◌-ℤ◌}
+use Rattle.std.specs.Prelude.{false, Result, Ok, Err, ◌≡◌, ℕ, ◌*◌, ◌/◌, ◌≤◌, ℤ, nat_abs, ◌-ℤ◌}
 use Rattle.rules.specs.Units.{◌°◌'◌''}
-use Rattle.rules.specs.Systems.{Ellipsoid}
-use Rattle.rules.specs.Points.{latitude_bad}
-use Rattle.systems.specs.Zones.{Sized}
+use Rattle.rules.specs.Refusals.{answered}
+use Rattle.rules.specs.Systems.{System, Ellipsoid}
+use Rattle.rules.specs.Points.{latitude_bad, forward_checks}
+use Rattle.terms.specs.Papers.{refusal_paper}
+use Rattle.terms.specs.declared.refusals.Refusal.{Refusal}
+use Rattle.systems.specs.Zones.{Sized, Stands}
 use Rattle.systems.specs.declared.Zone.{Zone}
 use Rattle.fixed.specs.Worked.{S60}
 use Rattle.fixed.specs.Laws.Turned.{below_zero}
@@ -24,3 +27,8 @@ pub record LocatedAt (E : Ellipsoid) (n : ℕ) (d : ℤ) (r : Located) : Type 0 
   pub east_small : r.mercator.east ≤ limit30
   pub sphere_sizes : SphereSizes r.mercator.sphere
   pub across_small : r.mercator.across ≤ 11 * S60 / 100
+
+-- what the checks 1, 2 and 3 of a point say: the row of a system in which it is taken, or the paper's refusal
+abbrev pub Checked : ℕ → ℤ → ℤ → Result Zone Refusal → Type 0
+Checked code b l (Ok zone) = (s : System) × (forward_checks code b l ≡ answered s) × Stands zone s × Taken zone b l
+Checked code b l (Err refusal) = forward_checks code b l ≡ refusal_paper refusal

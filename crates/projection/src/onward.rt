@@ -5,8 +5,9 @@ ghost use Rattle.systems.specs.Zones.{Sized, Stands};
 ghost use Rattle.double.specs.Value.{value};
 ghost use Rattle.fixed.specs.Nearness.{turned};
 ghost use Rattle.fixed.specs.Laws.Turned.{below_zero};
-ghost use Rattle.projection_worked.specs.Worked.{scaled_part, scale_from, convergence_from, worked_X, worked_Y, worked_scale, worked_convergence};
-ghost use Rattle.fixed_forward.specs.Ellipsoids.{which};
+ghost use Rattle.projection_worked.specs.Worked.{scaled_part, scale_from, convergence_from, worked_X, worked_Y, worked_point};
+ghost use Rattle.projection.specs.Answers.{point_of};
+ghost use Rattle.terms.specs.Papers.{ellipsoid_of};
 ghost use Rattle.projection_worked.specs.Bounds.{Tame, Sloped};
 ghost use Rattle.double.specs.Complex.{Numbers};
 ghost use Rattle.fixed.specs.Worked.{S60, mul60};
@@ -18,41 +19,12 @@ ghost use Rattle.fixed_units.specs.Worked.{scale_units, m0_units, convergence_un
 ghost use Rattle.projection.specs.Located.{Taken, LocatedAt};
 
 use crate::steps::SlopeParts;
-use crate::{ForwardAnswer, PlaneAnswer, steps};
-use double::Pair;
+use crate::{Point, steps};
+use double::{Pair, series};
 use fixed_forward::Mercator;
+use projection_inverse::sides::{beside, turned};
 use systems::Zone;
-
-// The side of the central meridian on which a point lies, and its distance in ticks.
-#[derive(Clone, Copy)]
-pub struct Side {
-    pub west: bool,
-    pub ticks: u64,
-}
-
-pub fn side_of(meridian: i64, l: i64) -> Side
-    requires { nat_abs (l -ℤ meridian) ≤ 19800000000 }
-    ensures { (result.west ≡ below_zero (l -ℤ meridian)) × (result.ticks ≡ nat_abs (l -ℤ meridian)) }
-{
-    let d = l - meridian;
-    if d < 0 {
-        return Side {
-            west: true,
-            ticks: (0 - d) as u64,
-        };
-    }
-    Side {
-        west: false,
-        ticks: d as u64,
-    }
-}
-
-// X and Y in millimetres.
-#[derive(Clone, Copy)]
-pub struct Corner {
-    pub x: i64,
-    pub y: i64,
-}
+use terms::Corner;
 
 // X and Y of the Gauss-Krüger pair p.
 pub fn corner_of(zone: Zone, west: bool, p: Pair) -> Corner
@@ -63,62 +35,50 @@ pub fn corner_of(zone: Zone, west: bool, p: Pair) -> Corner
     let north = steps::after_scale(zone, p.re);
     let east = steps::after_scale(zone, p.im);
     Corner {
-        x: steps::beside(zone.north, false, north),
-        y: steps::beside(zone.east, west, east),
+        x: zone.north + north,
+        y: beside(zone.east, west, east),
     }
 }
 
-// A point's side of the central meridian, and Mercator's pair with what it is worked from.
+// A point's side of the central meridian, and Mercator's pair with what it is worked from. The side stands beside the sizes, because a series takes a size
+// alone, and the sign is put on what it answers.
 #[derive(Clone, Copy)]
 pub struct Located {
     pub west: bool,
     pub mercator: Mercator,
 }
 
-// Of a point that is taken.
+// Of a point that is taken. Zone, B and L one by one, as the call and the paper's steps have them.
 pub fn locate(zone: Zone, b: i64, l: i64) -> Located
     requires { Taken zone b l }
-    ensures { LocatedAt (which zone.krasovsky) (nat_abs b) (l -ℤ zone.meridian) result }
+    ensures { LocatedAt (ellipsoid_of zone.ellipsoid) (nat_abs b) (l -ℤ zone.meridian) result }
 {
-    let side = side_of(zone.meridian, l);
-    let mercator = fixed_forward::mercator60(zone.krasovsky, b as u64, side.ticks);
+    let mercator = fixed_forward::mercator60(zone.ellipsoid, b as u64, l.abs_diff(zone.meridian));
     Located {
-        west: side.west,
+        west: l < zone.meridian,
         mercator,
     }
 }
 
 // X and Y of a point that is taken.
-pub fn plane_at(zone: Zone, b: i64, l: i64) -> PlaneAnswer
+pub fn plane_at(zone: Zone, b: i64, l: i64) -> Corner
     requires { Taken zone b l }
-    ensures { (s : System) → Stands zone s → result ≡ PlaneAnswer.At (worked_X s b (l -ℤ s.L0)) (worked_Y s b (l -ℤ s.L0)) }
+    ensures { (s : System) → Stands zone s → (result.x ≡ worked_X s b (l -ℤ s.L0)) × (result.y ≡ worked_Y s b (l -ℤ s.L0)) }
 {
     let at = locate(zone, b, l);
-    let m = at.mercator;
-    let p = steps::plane_pair(zone.krasovsky, m.north, m.east);
-    let corner = corner_of(zone, at.west, p);
-    PlaneAnswer::At(corner.x, corner.y)
+    let z = steps::argument(at.mercator.north, at.mercator.east);
+    corner_of(zone, at.west, series::forward(zone.ellipsoid, z))
 }
 
-// Scale in units of 10^-9, with the zone's m0 in it, of the derivative's parts.
+// Scale in units of 10^-9, with the zone's m0 in it, of the derivative's parts. How large `across` is, is asked here and is no fact of `Mercator`: the functions of
+// fixed_scale take the number and not that struct.
 pub fn scale_of(zone: Zone, m: Mercator, parts: SlopeParts) -> i64
     requires { Sized zone × SphereSizes m.sphere × (m.across ≤ 11 * S60 / 100) × (parts.first ≤ 101 * S60 / 100) × (parts.slope ≤ 30 * S60 / 100000) }
-    ensures { result ≡ pos (scale_units (m0_units (nat_abs zone.millionths)) (mul60 (sphere_scale60 (ratio60 (which zone.krasovsky)) m.sphere.k (meridian60 (square60 (which zone.krasovsky)) m.sphere.t) m.sphere.d2 (spread60 m.across)) (length60 parts.first parts.slope))) }
+    ensures { result ≡ pos (scale_units (m0_units (nat_abs zone.millionths)) (mul60 (sphere_scale60 (ratio60 (ellipsoid_of zone.ellipsoid)) m.sphere.k (meridian60 (square60 (ellipsoid_of zone.ellipsoid)) m.sphere.t) m.sphere.d2 (spread60 m.across)) (length60 parts.first parts.slope))) }
 {
-    let shape = fixed_scale::shape60(zone.krasovsky);
+    let shape = fixed_scale::shape60(zone.ellipsoid);
     let scale = fixed_scale::scale60(shape, m.sphere, m.across, parts.first, parts.slope);
     fixed_units::scale_units(scale, steps::m0_units(zone)) as i64
-}
-
-// An angle, or its opposite where the flag is set.
-pub fn sided(west: bool, angle: i64) -> i64
-    requires { nat_abs angle ≤ S60 / 2 }
-    ensures { result ≡ turned west angle }
-{
-    if west {
-        return 0 - angle;
-    }
-    angle
 }
 
 // Convergence in thousandths of an arc second; `back` says that the derivative turns the other way.
@@ -128,30 +88,33 @@ pub fn convergence_of(m: Mercator, west: bool, back: bool, slope: u64) -> i64
 {
     let turn = fixed_scale::turn60(m.sphere);
     let east = fixed_scale::convergence60(turn, back, slope);
-    let angle = sided(west, east);
+    let angle = turned(west, east);
     fixed_units::convergence_units(angle)
 }
 
 // All four numbers of a located point, of the Gauss-Krüger pair p and the derivative h.
-pub fn point_answer(zone: Zone, at: Located, p: Pair, h: Pair) -> ForwardAnswer
+pub fn point_answer(zone: Zone, at: Located, p: Pair, h: Pair) -> Point
     requires { Sized zone × Tame p × Numbers h × Sloped h × SphereSizes at.mercator.sphere × (at.mercator.across ≤ 11 * S60 / 100) }
-    ensures { (n : ℕ) (d : ℤ) → LocatedAt (which zone.krasovsky) n d at → result ≡ ForwardAnswer.Point (zone.north +ℤ scaled_part (nat_abs zone.millionths) (value p.re)) (zone.east +ℤ turned (below_zero d) (scaled_part (nat_abs zone.millionths) (value p.im))) (scale_from (which zone.krasovsky) (nat_abs zone.millionths) n (nat_abs d) h) (convergence_from (which zone.krasovsky) n d h) }
+    ensures { (n : ℕ) (d : ℤ) → LocatedAt (ellipsoid_of zone.ellipsoid) n d at → (result.x ≡ zone.north +ℤ scaled_part (nat_abs zone.millionths) (value p.re)) × (result.y ≡ zone.east +ℤ turned (below_zero d) (scaled_part (nat_abs zone.millionths) (value p.im))) × (result.scale ≡ scale_from (ellipsoid_of zone.ellipsoid) (nat_abs zone.millionths) n (nat_abs d) h) × (result.convergence ≡ convergence_from (ellipsoid_of zone.ellipsoid) n d h) }
 {
     let corner = corner_of(zone, at.west, p);
     let parts = steps::slope_parts(h);
-    let scale = scale_of(zone, at.mercator, parts);
-    let convergence = convergence_of(at.mercator, at.west, h.im < 0.0, parts.slope);
-    ForwardAnswer::Point(corner.x, corner.y, scale, convergence)
+    Point {
+        x: corner.x,
+        y: corner.y,
+        scale: scale_of(zone, at.mercator, parts),
+        convergence: convergence_of(at.mercator, at.west, h.im < 0.0, parts.slope),
+    }
 }
 
 // X, Y, scale and convergence of a point that is taken.
-pub fn point_at(zone: Zone, b: i64, l: i64) -> ForwardAnswer
+pub fn point_at(zone: Zone, b: i64, l: i64) -> Point
     requires { Taken zone b l }
-    ensures { (s : System) → Stands zone s → result ≡ ForwardAnswer.Point (worked_X s b (l -ℤ s.L0)) (worked_Y s b (l -ℤ s.L0)) (worked_scale s b (l -ℤ s.L0)) (worked_convergence s b (l -ℤ s.L0)) }
+    ensures { (s : System) → Stands zone s → point_of result ≡ worked_point s b (l -ℤ s.L0) }
 {
     let at = locate(zone, b, l);
-    let m = at.mercator;
-    let p = steps::plane_pair(zone.krasovsky, m.north, m.east);
-    let h = steps::slope_pair(zone.krasovsky, m.north, m.east);
+    let z = steps::argument(at.mercator.north, at.mercator.east);
+    let p = series::forward(zone.ellipsoid, z);
+    let h = series::derivative(zone.ellipsoid, z);
     point_answer(zone, at, p, h)
 }

@@ -1,12 +1,9 @@
 // The steps of the projection after the checks, each equal to its worked value.
-ghost use Rattle.std.specs.Prelude.{◌≡◌, ◌-◌, ◌*◌, ◌/◌, ◌≤◌, pos, nat_abs, ◌+ℤ◌, ◌≤ℤ◌};
-ghost use Rattle.rules.specs.Scaled.{unit, derivative};
-ghost use Rattle.rules.specs.Systems.{constants, a_coefficients};
+ghost use Rattle.std.specs.Prelude.{◌≡◌, ◌-◌, ◌*◌, ◌/◌, ◌≤◌, pos, nat_abs, ◌≤ℤ◌};
 ghost use Rattle.rules.specs.Units.{units_in_scale};
 ghost use Rattle.rules.specs.Polynomial.{double_unit};
 ghost use Rattle.double.specs.Value.{value, Number};
-ghost use Rattle.double.specs.Complex.{horner, Numbers};
-ghost use Rattle.double.specs.Exact.{doubles};
+ghost use Rattle.double.specs.Complex.{Numbers};
 ghost use Rattle.metres.specs.Metres.{arguments_of};
 ghost use Rattle.metres.specs.Millimetres.{in_millimetres};
 ghost use Rattle.projection_worked.specs.Bounds.{limit30, Sloped};
@@ -14,51 +11,20 @@ ghost use Rattle.projection_worked.specs.Worked.{scaled_part, first60, slope60};
 ghost use Rattle.fixed.specs.Worked.{S60};
 ghost use Rattle.fixed_units.specs.Worked.{m0_units};
 ghost use Rattle.systems.specs.Zones.{Sized};
-ghost use Rattle.fixed.specs.Nearness.{turned};
-ghost use Rattle.fixed_forward.specs.Ellipsoids.{which};
 
 use double::Pair;
 use systems::Zone;
 
-// a0 + a1 * z + .. + a6 * z^6 of the ellipsoid.
-pub fn forward_polynomial(krasovsky: bool, z: Pair) -> Pair
-    ensures { result ≡ horner (doubles unit (a_coefficients (constants (which krasovsky)))) z }
-{
-    if krasovsky {
-        return double::series::forward_krasovsky(z);
-    }
-    double::series::forward_grs80(z)
-}
-
-// The Gauss-Krüger pair in metres, of Mercator's x less 5,760,000 m and the size of y in units of 2^-30 m.
-pub fn plane_pair(krasovsky: bool, north: i64, east: u64) -> Pair
+// The polynomials' argument, of Mercator's x less 5,760,000 m and the size of y in units of 2^-30 m.
+pub fn argument(north: i64, east: u64) -> Pair
     requires { (nat_abs north ≤ limit30) × (east ≤ limit30) }
-    ensures { result ≡ horner (doubles unit (a_coefficients (constants (which krasovsky)))) (arguments_of north (pos east)) }
+    ensures { result ≡ arguments_of north (pos east) }
 {
-    let z = metres::arguments(north, east as i64);
-    forward_polynomial(krasovsky, z)
-}
-
-// a1 + 2 * a2 * z + .. + 6 * a6 * z^5 of the ellipsoid.
-pub fn derivative_polynomial(krasovsky: bool, z: Pair) -> Pair
-    ensures { result ≡ horner (doubles unit (derivative (a_coefficients (constants (which krasovsky))))) z }
-{
-    if krasovsky {
-        return double::series::derivative_krasovsky(z);
-    }
-    double::series::derivative_grs80(z)
-}
-
-// The derivative at the same z.
-pub fn slope_pair(krasovsky: bool, north: i64, east: u64) -> Pair
-    requires { (nat_abs north ≤ limit30) × (east ≤ limit30) }
-    ensures { result ≡ horner (doubles unit (derivative (a_coefficients (constants (which krasovsky))))) (arguments_of north (pos east)) }
-{
-    let z = metres::arguments(north, east as i64);
-    derivative_polynomial(krasovsky, z)
+    metres::arguments(north, east as i64)
 }
 
 // The derivative as whole numbers at scale 2^60: its first part times 0.000002, and the size of its slope.
+// Their bounds are asked where fixed_scale's functions need them: these take the numbers, because the crate stands below this one and knows no `SlopeParts`.
 #[derive(Clone, Copy)]
 pub struct SlopeParts {
     pub first: u64,
@@ -111,15 +77,4 @@ pub fn after_scale(zone: Zone, p: f64) -> i64
 {
     let short = shortfall(zone.millionths);
     part_millimetres(p, short)
-}
-
-// A part put on its side of the offset.
-pub fn beside(offset: i64, minus: bool, part: i64) -> i64
-    requires { (nat_abs offset ≤ 10000000000) × (nat_abs part ≤ 8000001001) }
-    ensures { result ≡ offset +ℤ turned minus part }
-{
-    if minus {
-        return offset - part;
-    }
-    offset + part
 }

@@ -1,9 +1,10 @@
--- The paper's number and values for each case of the inverse's answer. Assumes nothing.
-use Rattle.rules.specs.Refusals.{Answer, answered, refused}
+-- What the inverse's answer says: the paper's ticks, or its refusal. Assumes nothing.
+use Rattle.std.specs.Prelude.{Result}
+use Rattle.rules.specs.Refusals.{Answer}
 use Rattle.rules.specs.Points.{Ticks}
-use Rattle.projection_inverse.specs.declared.InverseAnswer.{InverseAnswer}
-use Rattle.projection_inverse.specs.declared.InverseAnswer.TheVariants as inverse_case
+use Rattle.terms.specs.Papers.{paper}
+use Rattle.terms.specs.declared.refusals.Refusal.{Refusal}
+use Rattle.projection_inverse.specs.declared.Geodetic.{Geodetic}
 
-abbrev pub inverse_paper : InverseAnswer → Answer Ticks
-inverse_paper (inverse_case.Ticks B L) = answered (record { B = B; L = L })
-inverse_paper (inverse_case.Refused n) = refused n
+abbrev pub inverse_paper : Result Geodetic Refusal → Answer Ticks
+inverse_paper = paper (λ g. record { B = g.latitude; L = g.longitude })

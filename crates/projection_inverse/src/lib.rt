@@ -2,10 +2,11 @@
 #![tactic(auto)]
 
 pub mod backward;
+pub mod sides;
 
-// B and L, or the refusal's number.
-#[derive(Clone, Copy)]
-pub enum InverseAnswer {
-    Ticks(i64, i64),
-    Refused(u8),
+// B and L in ticks.
+#[derive(Clone, Copy, Debug, PartialEq, Eq)]
+pub struct Geodetic {
+    pub latitude: i64,
+    pub longitude: i64,
 }

@@ -1,51 +1,32 @@
--- The numbers of a body as the code works them, and the kinds' rows as the code tests them. Assumes nothing.
-use mathlib.Core.Path.{◌≡◌, refl, sym, ap, ◌∙◌}
-use mathlib.Core.Bool.{Bool, true, false}
-use mathlib.Core.List.{List, [], ◌∷◌}
-use Prim.Native.Nat.{ℕ, zero, suc, ◌+◌, ◌*◌, ◌-◌, ◌^◌, ◌<◌, ◌≤◌}
-use native.Mathlib.Nat.{zero-add}
-use native.Mathlib.Numerals.{add-one}
-use native.Mathlib.Omega.{arith}
-use borrow.Author.Tests.{lt-ltb, le-ltb, ne_eqb, eqb-true, eqb-false}
-use lib.Dec.{eqb}
+-- The numbers of a body as the code reads them, a byte as the rules' search for a kind finds it, and a record at a place. Assumes nothing.
+use Rattle.std.proofs.Common.{◌≡◌, refl, sym, ap, ◌∙◌, ℕ, suc, ltb, to_z, of_z, Bool, true, false, ltb-true, ltb-false, take_all, ◌+◌, ◌*◌, ◌-◌, ◌<◌, ◌≤◌, ◌^◌, ℤ, List, [], ◌∷◌, length, take, drop, get_or, arith, add-one, drop-cons, Some, None, Ok, Err, length-drop, length-take-le, Fits, w8}
+use Rattle.std.proofs.lemmas.List.{get_or-take, get_or-drop}
+use Rattle.std.proofs.Math.ListN.{drop_of_length-le}
+use Rattle.std.specs.Int.{w64, from_le_bytes, cast_signed}
+use Rattle.std.proofs.Math.Facts.{to_z_pos, to_z-neg, to_z-of_z}
 use lib.Signed.{mag}
-use lib.IntN.{ℤ, pos, negsuc, ◌-ℤ◌}
-use lib.ListN.{length, take, drop, get_or, length-drop, drop_of_length-le}
-use lib.Seq.{drop-cons, length-take-le}
-use mir.Syntax.{w64}
-use mir.Val.{to_z, of_z, SFits}
-use mir.Facts.{to_z-of_z}
-use mir.ValLaws.{to_z_pos}
-use Rattle.rules.specs.JobFile.{signed, little_endian, number_at, code_of, Row, kind_row, begin_field, corner, close_ring, nozzle_query, point_to_plane, find_kind, kinds}
+use borrow.Author.Tests.{lt-ltb, le-ltb, ne_eqb}
+use Rattle.rules.specs.Refusals.{answered}
+use Rattle.rules.specs.JobFile.{signed, little_endian, number_at, code_of, Row, kind_row, begin_field, corner, close_ring, nozzle_query, point_to_plane, kinds, find_kind}
 use Rattle.rules.proofs.Laws.Job.{signed_low}
-use Rattle.rules.specs.Refusals.{Answer, refused, kind_unknown, body_cut_off}
+use Rattle.terms.specs.declared.refusals.Refusal.{Refusal}
+use Rattle.terms.specs.declared.refusals.Refusal.TheVariants.{KindUnknown, BodyCutOff}
+use Rattle.records.specs.declared.kinds.Kind.{Kind}
+use Rattle.records.specs.declared.kinds.Kind.TheVariants as kind_case
 use Rattle.records.specs.declared.Record as code
 use Rattle.records.specs.declared.Record.TheVariants as case
-use Rattle.records.specs.declared.Read.TheVariants.{Whole, Refused, End}
-use Rattle.records.specs.declared.Length.TheVariants.{Bytes, Unknown}
-use Rattle.records.specs.Laws.Kinds.{Found, here, nowhere, found}
-use Rattle.records.specs.Reader.{eight_at, length_by, length_of, body_by, body_of, BodyOf, framed, read_at}
+use Rattle.records.specs.Kinds.{row_of, Decodes}
+use Rattle.records.specs.Reader.{parsed, framed, read_at}
 
--- ---- two's complement
-less_one : (m : ℕ) → negsuc 0 -ℤ pos m ≡ negsuc m
-less_one zero = refl
-less_one (suc m) = simp zero-add
+-- ---- eight bytes, the lowest first, in two's complement
+pub signed_is : (n : ℕ) → n < 2 ^ 64 → cast_signed w64 n ≡ signed n
+unfolding signed
+signed_is n h = go (ltb n (2 ^ 63)) refl
+  where
+    go : (b : Bool) → ltb n (2 ^ 63) ≡ b → cast_signed w64 n ≡ signed n
+    go true e = let low : n < 2 ^ 63 = ltb-true n (2 ^ 63) e in to_z_pos w64 low ∙ sym (signed_low n low)
+    go false e = let high : 2 ^ 63 ≤ n = ltb-false n (2 ^ 63) e in let k : 2 ^ 64 - suc (2 ^ 64 - 1 - n) ≡ n = omega arith in ap (cast_signed w64) (sym k) ∙ to_z-neg w64 (2 ^ 64 - 1 - n) (omega arith) ∙ rw (e, signed) refl
 
-minus : (m : ℕ) → m < 2 ^ 63 → negsuc 0 -ℤ to_z w64 m ≡ negsuc m
-minus m h = rw (to_z_pos w64 m h) (less_one m)
-
-module _ (x : ℕ) (fits : x < 2 ^ 64) where
-  pub low : x < 2 ^ 63 → to_z w64 x ≡ signed x
-  low h = to_z_pos w64 x h ∙ sym (signed_low x h)
-
-  pub held : 2 ^ 63 ≤ x → SFits w64 (negsuc 0 -ℤ to_z w64 (18446744073709551615 - x))
-  held h = rw (minus (18446744073709551615 - x) (omega arith)) (record { sfits = omega arith })
-
-  pub high : 2 ^ 63 ≤ x → to_z w64 (of_z w64 (negsuc 0 -ℤ to_z w64 (18446744073709551615 - x))) ≡ signed x
-  unfolding signed
-  high h = to_z-of_z (held h) ∙ minus (18446744073709551615 - x) (omega arith) ∙ rw (le-ltb x (2 ^ 63) h, signed)
-
--- ---- eight bytes, the lowest first
 some : (n i j : ℕ) (b : List ℕ) → i < length b → suc i ≡ j → little_endian (take (suc n) (drop i b)) ≡ get_or b i 0 + 256 * little_endian (take n (drop j b))
 unfolding little_endian
 some n i j b h e = ap (λ (l : List ℕ). little_endian (take (suc n) l)) (drop-cons b i 0 h) ∙ ap (λ (k : ℕ). get_or b i 0 + 256 * little_endian (take n (drop k b))) e
@@ -54,154 +35,119 @@ none : (i : ℕ) (b : List ℕ) → little_endian (take 0 (drop i b)) ≡ 0
 unfolding little_endian
 none i b = refl
 
-pub eight : (i : ℕ) (b : List ℕ) → i + 8 ≤ length b → eight_at i b ≡ little_endian (take 8 (drop i b))
-unfolding eight_at
-eight i b h =
+pub eight : (b : List ℕ) → length b ≡ 8 → from_le_bytes w64 b ≡ little_endian b
+eight b h =
     omega (
       arith,
-      some 7 i (i + 1) b (omega arith) (omega arith),
-      some 6 (i + 1) (i + 2) b (omega arith) (omega arith),
-      some 5 (i + 2) (i + 3) b (omega arith) (omega arith),
-      some 4 (i + 3) (i + 4) b (omega arith) (omega arith),
-      some 3 (i + 4) (i + 5) b (omega arith) (omega arith),
-      some 2 (i + 5) (i + 6) b (omega arith) (omega arith),
-      some 1 (i + 6) (i + 7) b (omega arith) (omega arith),
-      some 0 (i + 7) (i + 8) b (omega arith) (omega arith),
-      none (i + 8) b,
+      some 7 0 1 b (omega arith) refl,
+      some 6 1 2 b (omega arith) refl,
+      some 5 2 3 b (omega arith) refl,
+      some 4 3 4 b (omega arith) refl,
+      some 3 4 5 b (omega arith) refl,
+      some 2 5 6 b (omega arith) refl,
+      some 1 6 7 b (omega arith) refl,
+      some 0 7 8 b (omega arith) refl,
+      none 8 b,
+      ap little_endian (take_all 8 b (omega arith)),
     )
 
-pub number_is : (i : ℕ) (b : List ℕ) → i + 8 ≤ length b → signed (eight_at i b) ≡ number_at i b
-unfolding number_at
-number_is i b h = ap signed (eight i b h)
+pub back : {z y : ℤ} → mag z < 2 ^ 63 → z ≡ y → to_z w64 (of_z w64 z) ≡ y
+back h e = to_z-of_z {w = w64} (record { sfits = h }) ∙ e
 
--- ---- the rows
-pub code_is : (b : List ℕ) → 0 < length b → get_or b 0 0 ≡ little_endian (take 1 b)
-unfolding little_endian
-code_is [] h = absurd (omega arith)
-code_is (x ∷ b) h = omega arith
+same_part : (i k : ℕ) (b : List ℕ) → take (i + k - i) (drop i b) ≡ take k (drop i b)
+same_part i k b = let e : i + k - i ≡ k = omega arith in ap (λ (n : ℕ). take n (drop i b)) e
 
+module _ (i : ℕ) (b bs : List ℕ) (within : i + 8 ≤ length b) (e : bs ≡ take (i + 8 - i) (drop i b)) where
+  long : length bs ≡ 8
+  long = let d = length-drop i b in ap length (e ∙ same_part i 8 b) ∙ length-take-le 8 (drop i b) (omega arith)
+
+  module _ (bytes : (k : ℕ) → Fits w8 (get_or b k 0)) where
+    byte : (k : ℕ) → k < 8 → get_or bs k 0 < 256
+    byte k h = rw (e ∙ same_part i 8 b, get_or-take 8 (drop i b) k 0 h, get_or-drop) (bytes (i + k)).fits
+
+    fits : from_le_bytes w64 bs < 2 ^ 64
+    fits =
+        omega (
+          arith,
+          byte 0 (omega arith),
+          byte 1 (omega arith),
+          byte 2 (omega arith),
+          byte 3 (omega arith),
+          byte 4 (omega arith),
+          byte 5 (omega arith),
+          byte 6 (omega arith),
+          byte 7 (omega arith),
+        )
+
+    pub number_is : {z : ℤ} → mag z < 2 ^ 63 → z ≡ cast_signed w64 (from_le_bytes w64 bs) → to_z w64 (of_z w64 z) ≡ number_at i b
+    unfolding number_at
+    number_is h f = back h (f ∙ signed_is (from_le_bytes w64 bs) fits ∙ ap signed (eight bs long ∙ ap little_endian (e ∙ same_part i 8 b)))
+
+code_is : (b : List ℕ) → 0 < length b → get_or b 0 0 ≡ code_of b
+unfolding code_of little_endian
+code_is (x ∷ b) l = omega arith
+code_is [] l = absurd (omega arith)
+
+module _ {kind : Kind} (b : List ℕ) where
+  pub begins : kind ≡ kind_case.Begin → length b ≡ (row_of kind).body_length → case.Begin (get_or b 0 0) ≡ parsed (row_of kind).kind b
+  begins e l = let long : length b ≡ 1 = rw e at l in rw e (ap case.Begin (code_is b (omega arith)))
+
+  pub points : {x y : ℤ} → kind ≡ kind_case.Point → length b ≡ (row_of kind).body_length → x ≡ number_at 1 b → y ≡ number_at 9 b
+      → case.Point (get_or b 0 0) x y ≡ parsed (row_of kind).kind b
+  points e l f g =
+      let long : length b ≡ 17 = rw e at l in
+      rw (e, f, g) (ap (λ (c : ℕ). case.Point c (number_at 1 b) (number_at 9 b)) (code_is b (omega arith)))
+
+-- ---- the rows, by a kind's byte
 past : (byte : ℕ) (k : Row) (ks : List Row) → (byte ≡ k.byte → ⊥) → find_kind byte (k ∷ ks) ≡ find_kind byte ks
 unfolding find_kind
 past byte k ks n = rw (ne_eqb byte k.byte n, find_kind)
 
-pub no_kind : (k : ℕ) → (k ≡ 1 → ⊥) → (k ≡ 2 → ⊥) → (k ≡ 3 → ⊥) → (k ≡ 4 → ⊥) → (k ≡ 5 → ⊥) → find_kind k kinds ≡ refused kind_unknown
+pub known_byte : (kind : Kind) {byte : ℕ} → byte ≡ (row_of kind).byte → Decodes byte (Ok kind)
 unfolding find_kind kinds
-no_kind k a b c d e =
-    past k (kind_row 1 begin_field 1) (drop 1 kinds) a ∙ past k (kind_row 2 corner 16) (drop 2 kinds) b ∙ past k (kind_row 3 close_ring 0) (drop 3 kinds) c
-    ∙ past k (kind_row 4 nozzle_query 16) (drop 4 kinds) d ∙ past k (kind_row 5 point_to_plane 17) [] e
+known_byte kind_case.Begin e = record { found = rw e refl; unknown = tt }
+known_byte kind_case.Corner e = record { found = rw e refl; unknown = tt }
+known_byte kind_case.Close e = record { found = rw e refl; unknown = tt }
+known_byte kind_case.Query e = record { found = rw e refl; unknown = tt }
+known_byte kind_case.Point e = record { found = rw e refl; unknown = tt }
 
--- ---- a body's length, by its kind
-module _ (k : ℕ) (b : List ℕ) (body : BodyOf k b) where
-  is_long : (n : ℕ) → length_of k ≡ Bytes n → length b ≡ n
-  is_long n e = let l = body.long in cc
-
-  pub one_long : k ≡ 1 → length b ≡ 1
-  unfolding length_of find_kind kinds
-  one_long e = is_long 1 (rw e)
-
-  pub two_long : k ≡ 2 → length b ≡ 16
-  unfolding length_of find_kind kinds
-  two_long e = is_long 16 (rw e)
-
-  pub four_long : k ≡ 4 → length b ≡ 16
-  unfolding length_of find_kind kinds
-  four_long e = is_long 16 (rw e)
-
-  -- what is left after the other four
-  pub five : (k ≡ 1 → ⊥) → (k ≡ 2 → ⊥) → (k ≡ 3 → ⊥) → (k ≡ 4 → ⊥) → k ≡ 5
-  unfolding length_of
-  five n1 n2 n3 n4 = go (eqb k 5) refl
-    where
-      never : Unknown ≡ Bytes (length b) → ⊥
-      never u = let z : ◌≡◌ {A = ℕ} 0 1 = cc in omega arith
-
-      go : (t : Bool) → eqb k 5 ≡ t → k ≡ 5
-      go true e = eqb-true k 5 e
-      go false e = absurd (never (sym (ap length_by (no_kind k n1 n2 n3 n4 (eqb-false k 5 e))) ∙ body.long))
-
-  pub five_long : (k ≡ 1 → ⊥) → (k ≡ 2 → ⊥) → (k ≡ 3 → ⊥) → (k ≡ 4 → ⊥) → length b ≡ 17
-  unfolding length_of find_kind kinds
-  five_long n1 n2 n3 n4 = is_long 17 (rw (five n1 n2 n3 n4))
-
--- ---- the record that a body is, as the code has its numbers
-pub back : {z y : ℤ} → mag z < 2 ^ 63 → z ≡ y → to_z w64 (of_z w64 z) ≡ y
-back h e = to_z-of_z {w = w64} (record { sfits = h }) ∙ e
-
-module _ {k : ℕ} (b : List ℕ) where
-  pub begins : k ≡ 1 → 0 < length b → case.Begin (get_or b 0 0) ≡ body_of k b
-  unfolding body_of find_kind kinds code_of
-  begins e h = rw e (ap (λ (c : ℕ). case.Begin c) (code_is b h))
-
-  pub corners : {x y : ℤ} → k ≡ 2 → x ≡ number_at 0 b → y ≡ number_at 8 b → case.Corner x y ≡ body_of k b
-  unfolding body_of find_kind kinds
-  corners e f g = rw (e, f, g) refl
-
-  pub closes : k ≡ 3 → case.Close ≡ body_of k b
-  unfolding body_of find_kind kinds
-  closes e = rw e refl
-
-  pub queries : {x y : ℤ} → k ≡ 4 → x ≡ number_at 0 b → y ≡ number_at 8 b → case.Query x y ≡ body_of k b
-  unfolding body_of find_kind kinds
-  queries e f g = rw (e, f, g) refl
-
-  pub points : {x y : ℤ} → k ≡ 5 → 0 < length b → x ≡ number_at 1 b → y ≡ number_at 9 b → case.Point (get_or b 0 0) x y ≡ body_of k b
-  unfolding body_of find_kind kinds code_of
-  points e h f g = rw (e, f, g) (ap (λ (c : ℕ). case.Point c (number_at 1 b) (number_at 9 b)) (code_is b h))
+pub no_kind : (k : ℕ) → (k ≡ 1 → ⊥) → (k ≡ 2 → ⊥) → (k ≡ 3 → ⊥) → (k ≡ 4 → ⊥) → (k ≡ 5 → ⊥) → Decodes k (Err KindUnknown)
+unfolding find_kind kinds
+no_kind k a b c d e = record {
+  found = sym (
+      past k (kind_row 1 begin_field 1) (drop 1 kinds) a ∙ past k (kind_row 2 corner 16) (drop 2 kinds) b ∙ past k (kind_row 3 close_ring 0) (drop 3 kinds) c
+      ∙ past k (kind_row 4 nozzle_query 16) (drop 4 kinds) d ∙ past k (kind_row 5 point_to_plane 17) [] e
+      );
+  unknown = refl;
+}
 
 -- ---- a record at a place
-module _ (at : ℕ) (rest : List ℕ) where
-  unknown : {a : Answer Row} → Found a → length_by a ≡ Unknown → framed at rest a ≡ Refused kind_unknown at
-  unknown (here k short) e = absurd (never e)
-    where
-      never : Bytes k.body_length ≡ Unknown → ⊥
-      never u = let z : ◌≡◌ {A = ℕ} 0 1 = cc in omega arith
-  unknown nowhere e = refl
-
-  cut : {a : Answer Row} (n : ℕ) → Found a → length_by a ≡ Bytes n → length rest < n → framed at rest a ≡ Refused body_cut_off at
-  cut n (here k short) e h = let m : k.body_length ≡ n = cc in rw (m, lt-ltb (length rest) n h, framed) refl
-  cut n nowhere e h = absurd (never e)
-    where
-      never : Unknown ≡ Bytes n → ⊥
-      never u = let z : ◌≡◌ {A = ℕ} 0 1 = cc in omega arith
-
-  whole : {a : Answer Row} (n : ℕ) → Found a → length_by a ≡ Bytes n → n ≤ length rest
-      → framed at rest a ≡ Whole (body_by a (take n rest)) (record { at = at + 1 + n })
-  whole n (here k short) e h = let m : n ≡ k.body_length = cc in rw (m, le-ltb (length rest) k.body_length (rw m at h), framed) refl
-  whole n nowhere e h = absurd (never e)
-    where
-      never : Unknown ≡ Bytes n → ⊥
-      never u = let z : ◌≡◌ {A = ℕ} 0 1 = cc in omega arith
-
 module _ (file : List ℕ) (at : ℕ) where
-  pub ends : length file ≤ at → End ≡ read_at file at
+  pub ends : length file ≤ at → Ok None ≡ read_at file at
   unfolding read_at
   ends h = rw (drop_of_length-le file h) refl
 
-  first : at < length file → read_at file at ≡ framed at (drop (at + 1) file) (find_kind (get_or file at 0) kinds)
+  pub first : at < length file → read_at file at ≡ framed at (drop (at + 1) file) (find_kind (get_or file at 0) kinds)
   unfolding read_at
   first h = rw (drop-cons file at 0 h, ← add-one) refl
 
-  pub unknown_kind : at < length file → length_of (get_or file at 0) ≡ Unknown → Refused kind_unknown at ≡ read_at file at
-  unfolding length_of
-  unknown_kind h e = sym (first h ∙ unknown at (drop (at + 1) file) (found (get_or file at 0)) e)
+  module _ (kind : Kind) (inside : at < length file) (found : Decodes (get_or file at 0) (Ok kind)) where
+    known : read_at file at ≡ framed at (drop (at + 1) file) (answered (row_of kind))
+    known = first inside ∙ ap (framed at (drop (at + 1) file)) (sym found.found)
 
-  pub cut_off : (n : ℕ) → at < length file → length_of (get_or file at 0) ≡ Bytes n → length file - (at + 1) < n → Refused body_cut_off at ≡ read_at file at
-  unfolding length_of
-  cut_off n h e l = sym (first h ∙ cut at (drop (at + 1) file) n (found (get_or file at 0)) e (rw length-drop l))
+    pub cut_off : {m : ℕ} → m ≡ (row_of kind).body_length → length file - (at + 1) < m → Err (record { refusal = BodyCutOff; at = at }) ≡ read_at file at
+    cut_off e l = sym (known ∙ rw (lt-ltb (length (drop (at + 1) file)) (row_of kind).body_length (rw (length-drop, ← e) l), framed) refl)
 
-  pub whole_record : (n : ℕ) (r : code.Record) → at < length file → length_of (get_or file at 0) ≡ Bytes n → n ≤ length file - (at + 1)
-      → r ≡ body_of (get_or file at 0) (take (at + 1 + n - (at + 1)) (drop (at + 1) file)) → Whole r (record { at = at + 1 + n }) ≡ read_at file at
-  unfolding length_of body_of
-  whole_record n r h e l f =
-      ap (λ (r : code.Record). Whole r (record { at = at + 1 + n })) (f ∙ ap (λ (m : ℕ). body_by (find_kind (get_or file at 0) kinds) (take m (drop (at + 1) file))) (just (at + 1) n))
-      ∙ sym (first h ∙ whole at (drop (at + 1) file) n (found (get_or file at 0)) e (rw length-drop l))
-    where
-      just : (k n : ℕ) → k + n - k ≡ n
-      just k n = omega arith
+    pub whole_record : (m : ℕ) {item : code.Record} → m ≡ (row_of kind).body_length → m ≤ length file - (at + 1)
+        → item ≡ parsed (row_of kind).kind (take (at + 1 + m - (at + 1)) (drop (at + 1) file))
+        → Ok (Some (record { item = item; next = record { at = at + 1 + m } })) ≡ read_at file at
+    whole_record m e l f =
+        rw (f, just (at + 1) m, e) (sym (known ∙ rw (le-ltb (length (drop (at + 1) file)) (row_of kind).body_length (rw (length-drop, ← e) l), framed) refl))
+      where
+        just : (k n : ℕ) → k + n - k ≡ n
+        just k n = omega arith
 
-pub body_fits : (file : List ℕ) (at n : ℕ) → at < length file → length_of (get_or file at 0) ≡ Bytes n → n ≤ length file - (at + 1)
-    → BodyOf (get_or file at 0) (take (at + 1 + n - (at + 1)) (drop (at + 1) file))
-body_fits file at n h e l = record { long = e ∙ ap (λ (m : ℕ). Bytes m) (sym (size (at + 1))) }
-  where
-    size : (k : ℕ) → length (take (k + n - k) (drop (at + 1) file)) ≡ n
-    size k = let d = length-drop (at + 1) file in length-take-le (k + n - k) (drop (at + 1) file) (omega arith) ∙ omega arith
+  pub unknown_kind : {refusal : Refusal} → at < length file → Decodes (get_or file at 0) (Err refusal) → Err (record { refusal = refusal; at = at }) ≡ read_at file at
+  unknown_kind inside found =
+      let e = found.unknown in
+      rw e (sym (first inside ∙ ap (framed at (drop (at + 1) file)) (sym (rw e at found.found))))

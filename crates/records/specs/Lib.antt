@@ -1,3 +1,4 @@
--- What the contracts of the record reader cite (Reader), and what is proved of it (Laws).
+-- What the contracts of the record reader cite (Kinds, Reader), and what is proved of it (Laws).
+pub mod Kinds
 pub mod Reader
 pub mod Laws

@@ -1,12 +1,19 @@
-// The records of a job file: a cursor by value over the file's bytes, and an enum for what stands at it.
+// The records of a job file: a cursor by value over the file's bytes, and what stands at it.
 // Checks 11 and 12 are made here; 13 and the content's own are the job's.
 #![tactic(auto)]
 
-ghost use Rattle.std.specs.Prelude.{◌≡◌, ◌+◌, ◌≤◌, ◌<◌, length, get_or};
-ghost use Rattle.rules.specs.JobFile.{number_at, signed};
-ghost use Rattle.records.specs.Reader.{BodyOf, body_of, eight_at, length_of, read_at};
+mod kinds;
 
-#[derive(Clone, Copy)]
+ghost use Rattle.std.specs.Prelude.{◌≡◌, ◌+◌, ◌≤◌, length};
+ghost use Rattle.rules.specs.JobFile.{number_at};
+ghost use Rattle.records.specs.Kinds.{row_of};
+ghost use Rattle.records.specs.Reader.{parsed, read_at};
+
+pub use kinds::Kind;
+use terms::Refusal;
+
+// X and Y, B and L one by one, as the rules' step has them; so have all that take a record apart.
+#[derive(Clone, Copy, Debug, PartialEq, Eq)]
 pub enum Record {
     Begin(u8),
     Corner(i64, i64),
@@ -17,24 +24,23 @@ pub enum Record {
     Inner,
 }
 
-#[derive(Clone, Copy)]
+#[derive(Clone, Copy, Debug, PartialEq, Eq)]
 pub struct Cursor {
     pub at: usize,
 }
 
-// A whole record with the cursor past it, a refusal's number with the place of the kind byte, or nothing left.
-#[derive(Clone, Copy)]
-pub enum Read {
-    Whole(Record, Cursor),
-    Refused(u8, usize),
-    End,
+// A whole record, with the cursor past it.
+#[derive(Clone, Copy, Debug, PartialEq, Eq)]
+pub struct Whole {
+    pub item: Record,
+    pub next: Cursor,
 }
 
-// The length of a kind's body.
-#[derive(Clone, Copy)]
-enum Length {
-    Bytes(usize),
-    Unknown,
+// Why no record is read, with the place of the kind byte.
+#[derive(Clone, Copy, Debug, PartialEq, Eq)]
+pub struct Stopped {
+    pub refusal: Refusal,
+    pub at: usize,
 }
 
 impl Cursor {
@@ -44,69 +50,46 @@ impl Cursor {
         Cursor { at: 0 }
     }
 
-    pub fn read(self, file: &[u8]) -> Read
+    // The record at the cursor, or `None` where nothing is left.
+    pub fn read(self, file: &[u8]) -> Result<Option<Whole>, Stopped>
         ensures { result ≡ read_at file.now self.at }
     {
         let at = self.at;
         if file.len() <= at {
-            return Read::End;
+            return Ok(None);
         }
-        let kind = file[at];
+        let kind = match Kind::try_from(file[at]) {
+            Ok(kind) => kind,
+            Err(refusal) => return Err(Stopped { refusal, at }),
+        };
         let from = at + 1;
-        let wanted = body_length(kind);
-        match wanted {
-            Length::Unknown => Read::Refused(11, at),
-            Length::Bytes(n) => {
-                if file.len() - from < n {
-                    return Read::Refused(12, at);
-                }
-                let end = from + n;
-                let record = parse(kind, &file[from..end]);
-                Read::Whole(record, Cursor { at: end })
-            }
+        let length = kind.body_length();
+        if file.len() - from < length {
+            return Err(Stopped {
+                refusal: Refusal::BodyCutOff,
+                at,
+            });
         }
+        let end = from + length;
+        Ok(Some(Whole {
+            item: parse(kind, &file[from..end]),
+            next: Cursor { at: end },
+        }))
     }
-}
-
-fn body_length(kind: u8) -> Length
-    ensures { result ≡ length_of kind }
-{
-    if kind == 1 {
-        return Length::Bytes(1);
-    }
-    if kind == 2 {
-        return Length::Bytes(16);
-    }
-    if kind == 3 {
-        return Length::Bytes(0);
-    }
-    if kind == 4 {
-        return Length::Bytes(16);
-    }
-    if kind == 5 {
-        return Length::Bytes(17);
-    }
-    Length::Unknown
 }
 
 // A body of its kind's length, as a record.
-fn parse(kind: u8, body: &[u8]) -> Record
-    requires { BodyOf kind body.now }
-    ensures { result ≡ body_of kind body.now }
+fn parse(kind: Kind, body: &[u8]) -> Record
+    requires { length body.now ≡ (row_of kind).body_length }
+    ensures { result ≡ parsed (row_of kind).kind body.now }
 {
-    if kind == 1 {
-        return Record::Begin(body[0]);
+    match kind {
+        Kind::Begin => Record::Begin(body[0]),
+        Kind::Corner => Record::Corner(number(body, 0), number(body, 8)),
+        Kind::Close => Record::Close,
+        Kind::Query => Record::Query(number(body, 0), number(body, 8)),
+        Kind::Point => Record::Point(body[0], number(body, 1), number(body, 9)),
     }
-    if kind == 2 {
-        return Record::Corner(number(body, 0), number(body, 8));
-    }
-    if kind == 3 {
-        return Record::Close;
-    }
-    if kind == 4 {
-        return Record::Query(number(body, 0), number(body, 8));
-    }
-    Record::Point(body[0], number(body, 1), number(body, 9))
 }
 
 // Eight bytes, the lowest first, in two's complement.
@@ -114,38 +97,7 @@ fn number(body: &[u8], at: usize) -> i64
     requires { at + 8 ≤ length body.now }
     ensures { result ≡ number_at at body.now }
 {
-    as_signed(as_written(body, at))
-}
-
-fn as_signed(x: u64) -> i64
-    ensures { result ≡ signed x }
-{
-    if x < 9223372036854775808 {
-        x as i64
-    } else {
-        let below = 18446744073709551615 - x;
-        -1 - (below as i64)
-    }
-}
-
-fn as_written(body: &[u8], at: usize) -> u64
-    requires { at + 8 ≤ length body.now }
-    ensures { result ≡ eight_at at body.now }
-{
-    let b0 = wide(body, at);
-    let b1 = wide(body, at + 1);
-    let b2 = wide(body, at + 2);
-    let b3 = wide(body, at + 3);
-    let b4 = wide(body, at + 4);
-    let b5 = wide(body, at + 5);
-    let b6 = wide(body, at + 6);
-    let b7 = wide(body, at + 7);
-    b0 + 256 * (b1 + 256 * (b2 + 256 * (b3 + 256 * (b4 + 256 * (b5 + 256 * (b6 + 256 * b7))))))
-}
-
-fn wide(body: &[u8], i: usize) -> u64
-    requires { i < length body.now }
-    ensures { (result ≡ get_or body.now i 0) × (result < 256) }
-{
-    body[i] as u64
+    let mut bytes = [0u8; 8];
+    bytes.copy_from_slice(&body[at..at + 8]);
+    i64::from_le_bytes(bytes)
 }

@@ -1,6 +1,8 @@
 -- What the contracts of ring_checks cite, and what is proved of it.
 --   Refusal    the number of a refusal
---   Reach      checks 7 and 8, by the smallest and the largest number of an axis
+--   Checks     what the checks 6, 7 and 8 answer, and 7 and 8 along one axis
+--   Reach      the number of what checks 7 and 8 answer, along one axis and of both
 -- The laws are in proofs/Laws; not needed to read the contracts.
 pub mod Refusal
+pub mod Checks
 pub mod Reach

@@ -1,11 +1,11 @@
 -- Checks 7 and 8: along one axis, where the smallest and the largest number decide, and of both. Assumes nothing.
-use Rattle.std.specs.Prelude.{Bool, true, false, cond, ◌||◌, List, [], ◌∷◌, ℕ, eqb, ℤ, pos, ◌-ℤ◌}
+use Rattle.std.specs.Prelude.{Bool, false, cond, ◌||◌, List, [], ◌∷◌, ℕ, eqb, ℤ, pos, ◌-ℤ◌}
 use Rattle.std.specs.Int.Signed.{lt_z}
 use Rattle.rules.specs.Refusals.{corner_number, span_too_large}
 use Rattle.rules.specs.Rings.{Corner}
 use Rattle.rules.specs.RingAnswers.{number_bad, any_bad, span, span_bad}
 
-unfoldable pub any_outside : List ℤ → Bool
+abbrev pub any_outside : List ℤ → Bool
 any_outside [] = false
 any_outside (a ∷ l) = number_bad a || any_outside l
 

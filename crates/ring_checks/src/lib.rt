@@ -1,101 +1,82 @@
 // The checks 6, 7 and 8 of a ring.
 #![tactic(auto)]
 
-ghost use Rattle.std.specs.Prelude.{◌≡◌, ◌<◌, length, ◌≤ℤ◌};
-ghost use Rattle.rules.specs.RingAnswers.{smaller, larger, ring_checks};
-ghost use Rattle.ring_checks.specs.Reach.{reach_refusal, either_refusal, corners_refusal};
+ghost use Rattle.std.specs.Prelude.{◌≡◌, ◌<◌, false, length, ◌≤ℤ◌, IfOk};
+ghost use Rattle.rules.specs.Refusals.{◌if◌};
+ghost use Rattle.rules.specs.RingAnswers.{ring_checks};
+ghost use Rattle.ring_checks.specs.Checks.{checked, numbers_checked, far, long};
 ghost use Rattle.ring_corners.specs.Corners.{pairs};
-ghost use Rattle.ring_checks.specs.Refusal.{refusal_of};
+ghost use Rattle.ring_corners.specs.declared.rings.Ring.{Ring};
+ghost use Rattle.terms.specs.Papers.{paper, passed_paper};
 
-use ring_corners::corners;
+use ring_corners::{Ring, corners};
+use terms::{Corner, Refusal};
 
-pub fn lesser(a: i64, b: i64) -> i64
-    ensures { result ≡ smaller a b }
-{
-    if b < a {
-        return b;
-    }
-    a
-}
-
-pub fn greater(a: i64, b: i64) -> i64
-    ensures { result ≡ larger a b }
-{
-    if a < b {
-        return b;
-    }
-    a
-}
-
-// 7 or 8 of an axis whose numbers reach from low to high, or 0. Once both are within ±10^10 their difference fits.
-fn reach(low: i64, high: i64) -> u8
+// 7 of an axis whose numbers reach from low to high.
+fn inside(low: i64, high: i64) -> Result<(), Refusal>
     requires { low ≤ℤ high }
-    ensures { result ≡ reach_refusal low high }
+    ensures { passed_paper result ≡ 7 if far low high }
 {
-    if low < -10_000_000_000 {
-        return 7;
+    if low < -10_000_000_000 || 10_000_000_000 < high {
+        return Err(Refusal::CornerNumber);
     }
-    if 10_000_000_000 < high {
-        return 7;
-    }
+    Ok(())
+}
+
+// 8 of an axis whose numbers are within ±10^10, so that their difference fits.
+fn narrow(low: i64, high: i64) -> Result<(), Refusal>
+    requires { far low high ≡ false }
+    ensures { passed_paper result ≡ 8 if long low high }
+{
     if 20_000_000 < high - low {
-        return 8;
+        return Err(Refusal::SpanTooLarge);
     }
-    0
+    Ok(())
 }
 
-// 7 before 8, of either axis.
-fn either(x: u8, y: u8) -> u8
-    ensures { result ≡ either_refusal x y }
-{
-    if x == 7 {
-        return 7;
-    }
-    if y == 7 {
-        return 7;
-    }
-    if x == 8 {
-        return 8;
-    }
-    y
-}
-
-// 7 or 8 of the corners' numbers, the first that is met, or 0: one pass finds the smallest and the largest number of each axis.
-fn numbers(corners: &[i64]) -> u8
+// 7 or 8 of the corners' numbers, the first that is met: one pass finds the smallest and the largest number of each axis.
+// The two corners are worked as in `Reach::with` of ring_boxes, which stands above this crate.
+fn numbers(corners: &[i64]) -> Result<(), Refusal>
     requires { 0 < length (pairs corners.now) }
-    ensures { result ≡ corners_refusal (pairs corners.now) }
+    ensures { passed_paper result ≡ numbers_checked (pairs corners.now) }
 {
     let n = corners.len() / 2;
-    let mut low_x = corners::x_at(corners, 0);
-    let mut high_x = low_x;
-    let mut low_y = corners::y_at(corners, 0);
-    let mut high_y = low_y;
-    let mut k = 1;
-    while k < n {
-        let x = corners::x_at(corners, k);
-        low_x = lesser(low_x, x);
-        high_x = greater(high_x, x);
-        let y = corners::y_at(corners, k);
-        low_y = lesser(low_y, y);
-        high_y = greater(high_y, y);
-        k += 1;
+    let mut low = corners::corner_at(corners, 0);
+    let mut high = low;
+    for k in 1..n {
+        let corner = corners::corner_at(corners, k);
+        low = Corner {
+            x: low.x.min(corner.x),
+            y: low.y.min(corner.y),
+        };
+        high = Corner {
+            x: high.x.max(corner.x),
+            y: high.y.max(corner.y),
+        };
     }
-    either(reach(low_x, high_x), reach(low_y, high_y))
+    inside(low.x, high.x)?;
+    inside(low.y, high.y)?;
+    narrow(low.x, high.x)?;
+    narrow(low.y, high.y)
 }
 
-// 6, 7 or 8, the first that is met, or 0.
-pub fn refusal(corners: &[i64]) -> u8
-    ensures { result ≡ refusal_of (ring_checks corners.now) }
+// 6, 7 or 8, the first that is met.
+pub fn check(corners: &[i64]) -> Result<(), Refusal>
+    ensures { passed_paper result ≡ checked corners.now }
 {
     let n = corners.len();
-    if n % 2 == 1 {
-        return 6;
-    }
-    if n < 6 {
-        return 6;
-    }
-    if 2048 < n {
-        return 6;
+    if n % 2 == 1 || n < 6 || 2048 < n {
+        return Err(Refusal::CornerCount);
     }
     numbers(corners)
+}
+
+// The ring of the numbers, where they pass.
+#[tactic(auto, using(crate::proofs::Laws::Accept::accepted, crate::proofs::Laws::Accept::refuses))]
+pub fn ring(corners: &[i64]) -> Result<Ring<'_>, Refusal>
+    ensures answer { paper (λ (ring : Ring). pairs ring.corners.now) result ≡ ring_checks corners.now }
+    ensures lent { IfOk result (λ (ring : Ring). ring.corners.now ≡ corners.now) }
+{
+    check(corners)?;
+    Ok(Ring { corners })
 }

@@ -1,5 +1,5 @@
 -- A ring as the calls take it: a flat list of numbers, X and Y of each corner in turn. What the calls require of it among themselves. Assumes nothing.
-use Rattle.std.specs.Prelude.{List, [], ◌∷◌, ◌≡◌, true, false, ℕ, ◌+◌, ◌*◌, ◌<◌, ◌≤◌, ltb, ℤ, pos, nat_abs, ◌-ℤ◌, length, get_or}
+use Rattle.std.specs.Prelude.{List, [], ◌∷◌, ◌≡◌, true, false, ℕ, ◌+◌, ◌*◌, ◌<◌, ◌≤◌, ltb, ℤ, nat_abs, ◌-ℤ◌, length, get_or}
 use Rattle.rules.specs.Rings.{Corner, origin}
 
 abbrev pub corner : ℤ → ℤ → Corner
@@ -10,6 +10,14 @@ unfoldable pub pairs : List ℤ → List Corner
 pairs [] = []
 pairs (X ∷ []) = []
 pairs (X ∷ Y ∷ l) = corner X Y ∷ pairs l
+
+-- c, seen from o
+abbrev pub seen_from : Corner → Corner → Corner
+seen_from o c = corner (c.x -ℤ o.x) (c.y -ℤ o.y)
+
+-- a corner that lies at most w from the origin, on either axis
+abbrev pub Small : ℕ → Corner → Type 0
+Small w c = (nat_abs c.x ≤ w) × (nat_abs c.y ≤ w)
 
 -- two corners that lie at most w apart, on either axis
 pub record Apart (w : ℕ) (a b : Corner) : Type 0 where

@@ -3,136 +3,75 @@ ghost use Rattle.std.specs.Prelude.{◌≡◌, ◌||◌, pos};
 ghost use Rattle.std.specs.Int.Signed.{lt_z};
 ghost use Rattle.rules.specs.Rings.{◌to◌, D};
 ghost use Rattle.rules.specs.Crossing.{aside, folds};
-ghost use Rattle.ring_corners.specs.Corners.{corner};
-ghost use Rattle.ring_pairs.specs.Crossings.{outside, straddle, ahead, no_length, AllNear, RowNear};
+ghost use Rattle.terms.specs.Papers.{corner_of};
+ghost use Rattle.ring_pairs.specs.Crossings.{outside, away, straddle, ahead, no_length, AllNear, RowNear};
 
+use ring_boxes::Reach;
 use ring_corners::sides;
-use ring_corners::sides::Sign;
-
-// Whether c-d, c the lesser, lies above high or below low.
-fn clear(low: i64, high: i64, c: i64, d: i64) -> bool
-    ensures { result ≡ (lt_z high c || lt_z d low) }
-{
-    if high < c {
-        return true;
-    }
-    if d < low {
-        return true;
-    }
-    false
-}
+use terms::Corner;
 
 // Whether c and d lie both above high, or both below low. By the lesser and the greater of them, which are found without a jump: with tests of c and of d, each by
 // itself, a field of 1,024 corners took a third to a half longer.
-pub fn beyond(low: i64, high: i64, c: i64, d: i64) -> bool
+#[tactic(auto, using(crate::specs::Laws::Crossings::over_high))]
+fn beyond(low: i64, high: i64, c: i64, d: i64) -> bool
     ensures { result ≡ outside low high c d }
 {
-    clear(
-        low,
-        high,
-        ring_checks::lesser(c, d),
-        ring_checks::greater(c, d),
-    )
+    high < c.min(d) || c.max(d) < low
+}
+
+// Whether the box of c and d has no point in common with another. The two are the ends of an edge, or the corners of a box.
+pub fn away(around: Reach, c: Corner, d: Corner) -> bool
+    ensures { result ≡ away (corner_of around.low) (corner_of around.high) (corner_of c) (corner_of d) }
+{
+    beyond(around.low.x, around.high.x, c.x, d.x) || beyond(around.low.y, around.high.y, c.y, d.y)
 }
 
 // Whether two values of D have one sign, so that both points lie to one side.
+#[tactic(auto, unfolding(rules::specs::Crossing::aside))]
 fn one_side(s: i64, t: i64) -> bool
     ensures { result ≡ aside s t }
 {
-    if 0 < s {
-        if 0 < t {
-            return true;
-        }
-        return false;
-    }
-    if s < 0 {
-        if t < 0 {
-            return true;
-        }
-        return false;
-    }
-    false
+    0 < s && 0 < t || s < 0 && t < 0
 }
 
 // Whether c and d lie to one side of the line a-b.
-fn both_aside(ax: i64, ay: i64, bx: i64, by: i64, cx: i64, cy: i64, dx: i64, dy: i64) -> bool
-    requires { AllNear (corner ax ay) (corner bx by) (corner cx cy) (corner dx dy) }
-    ensures { result ≡ aside (D (corner ax ay) (corner bx by) (corner cx cy)) (D (corner ax ay) (corner bx by) (corner dx dy)) }
+fn both_aside(a: Corner, b: Corner, c: Corner, d: Corner) -> bool
+    requires { AllNear (corner_of a) (corner_of b) (corner_of c) (corner_of d) }
+    ensures { result ≡ aside (D (corner_of a) (corner_of b) (corner_of c)) (D (corner_of a) (corner_of b) (corner_of d)) }
 {
-    one_side(
-        sides::side(ax, ay, bx, by, cx, cy),
-        sides::side(ax, ay, bx, by, dx, dy),
-    )
+    one_side(sides::side(a, b, c), sides::side(a, b, d))
 }
 
 // Whether neither of the edges a-b and c-d lies to one side of the other's line. Where their boxes touch, it says whether they share a point.
-pub fn straddles(ax: i64, ay: i64, bx: i64, by: i64, cx: i64, cy: i64, dx: i64, dy: i64) -> bool
-    requires { AllNear (corner ax ay) (corner bx by) (corner cx cy) (corner dx dy) }
-    ensures { result ≡ straddle (corner ax ay) (corner bx by) (corner cx cy) (corner dx dy) }
+#[tactic(auto, unfolding(crate::specs::Crossings::straddle))]
+pub fn straddles(a: Corner, b: Corner, c: Corner, d: Corner) -> bool
+    requires { AllNear (corner_of a) (corner_of b) (corner_of c) (corner_of d) }
+    ensures { result ≡ straddle (corner_of a) (corner_of b) (corner_of c) (corner_of d) }
 {
-    if both_aside(ax, ay, bx, by, cx, cy, dx, dy) {
-        return false;
-    }
-    if both_aside(cx, cy, dx, dy, ax, ay, bx, by) {
-        return false;
-    }
-    true
+    !both_aside(a, b, c, d) && !both_aside(c, d, a, b)
 }
 
-fn same(ax: i64, ay: i64, bx: i64, by: i64) -> bool
-    ensures { result ≡ no_length (corner ax ay) (corner bx by) }
+// Below 0 where the edge b-c runs back on the edge a-b.
+fn onward(a: Corner, b: Corner, c: Corner) -> i64
+    requires { RowNear (corner_of a) (corner_of b) (corner_of c) }
+    ensures { result ≡ ahead (corner_of a) (corner_of b) (corner_of c) }
 {
-    if ax < bx {
-        return false;
-    }
-    if bx < ax {
-        return false;
-    }
-    if ay < by {
-        return false;
-    }
-    if by < ay {
-        return false;
-    }
-    true
-}
-
-fn onward(ax: i64, ay: i64, bx: i64, by: i64, cx: i64, cy: i64) -> i64
-    requires { RowNear (corner ax ay) (corner bx by) (corner cx cy) }
-    ensures { result ≡ ahead (corner ax ay) (corner bx by) (corner cx cy) }
-{
-    (bx - ax) * (cx - bx) + (by - ay) * (cy - by)
-}
-
-fn runs_back(ax: i64, ay: i64, bx: i64, by: i64, cx: i64, cy: i64) -> bool
-    requires { RowNear (corner ax ay) (corner bx by) (corner cx cy) }
-    ensures { result ≡ lt_z (ahead (corner ax ay) (corner bx by) (corner cx cy)) (pos 0) }
-{
-    if onward(ax, ay, bx, by, cx, cy) < 0 {
-        return true;
-    }
-    false
+    (b.x - a.x) * (c.x - b.x) + (b.y - a.y) * (c.y - b.y)
 }
 
 // Of three corners on one line: whether b-c runs back on a-b, or a-b has no length.
-fn straight_fold(ax: i64, ay: i64, bx: i64, by: i64, cx: i64, cy: i64) -> bool
-    requires { RowNear (corner ax ay) (corner bx by) (corner cx cy) }
-    ensures { result ≡ (lt_z (ahead (corner ax ay) (corner bx by) (corner cx cy)) (pos 0) || no_length (corner ax ay) (corner bx by)) }
+fn straight_fold(a: Corner, b: Corner, c: Corner) -> bool
+    requires { RowNear (corner_of a) (corner_of b) (corner_of c) }
+    ensures { result ≡ (lt_z (ahead (corner_of a) (corner_of b) (corner_of c)) (pos 0) || no_length (corner_of a) (corner_of b)) }
 {
-    if same(ax, ay, bx, by) {
-        return true;
-    }
-    runs_back(ax, ay, bx, by, cx, cy)
+    a == b || onward(a, b, c) < 0
 }
 
 // Whether the edge a-b and the edge b-c after it share more than b, or a-b has no length. Either way the three corners are on one line, as few are: that is asked first.
-pub fn fold(ax: i64, ay: i64, bx: i64, by: i64, cx: i64, cy: i64) -> bool
-    requires { RowNear (corner ax ay) (corner bx by) (corner cx cy) }
-    ensures { result ≡ folds (corner ax ay to corner bx by) (corner bx by to corner cx cy) }
+#[tactic(auto, using(ring_corners::specs::Laws::Tests::zero_is, crate::specs::Laws::Crossings::folds_straight, crate::specs::Laws::Crossings::folds_bent))]
+pub fn fold(a: Corner, b: Corner, c: Corner) -> bool
+    requires { RowNear (corner_of a) (corner_of b) (corner_of c) }
+    ensures { result ≡ folds (corner_of a to corner_of b) (corner_of b to corner_of c) }
 {
-    match sides::near_sign(ax, ay, bx, by, cx, cy) {
-        Sign::Positive => false,
-        Sign::Zero => straight_fold(ax, ay, bx, by, cx, cy),
-        Sign::Negative => false,
-    }
+    sides::near_sign(a, b, c).is_eq() && straight_fold(a, b, c)
 }

@@ -3,89 +3,42 @@ ghost use Rattle.std.specs.Prelude.{◌≡◌, false, ◌<◌, length, get_or};
 ghost use Rattle.rules.specs.Rings.{◌to◌, origin, edges};
 ghost use Rattle.rules.specs.Crossing.{meets};
 ghost use Rattle.rules.specs.Placing.{meets_one};
-ghost use Rattle.rules.specs.RingAnswers.{smaller, larger};
-ghost use Rattle.ring_corners.specs.Corners.{corner, pairs, Near, Accepted};
-ghost use Rattle.ring_boxes.specs.Boxes.{Boxed};
-ghost use Rattle.ring_pairs.specs.Crossings.{away, BoxOf};
+ghost use Rattle.terms.specs.Papers.{corner_of};
+ghost use Rattle.ring_corners.specs.Corners.{pairs, Near};
+ghost use Rattle.ring_boxes.specs.Boxes.{lower, upper};
+ghost use Rattle.ring_pairs.specs.Crossings.{away};
 
-use ring_corners::corners;
+use ring_boxes::{BoxedRing, Reach};
 use ring_pairs::{meeting, search};
+use terms::Corner;
 
 // Whether the edge a-b and the ring's edge from corner i to j share a point, where their boxes touch: by the sides alone. Touching boxes are what keeps the products
 // small, for the corners of two rings may lie far apart.
-fn meets_touching(ring: &[i64], i: usize, j: usize, ax: i64, ay: i64, bx: i64, by: i64) -> bool
-    requires { Accepted ring.now × (i < length (pairs ring.now)) × (j < length (pairs ring.now)) × Near (corner bx by) (corner ax ay) × (away (smaller ax bx) (larger ax bx) (smaller ay by) (larger ay by) (get_or (pairs ring.now) i origin) (get_or (pairs ring.now) j origin) ≡ false) }
-    ensures { result ≡ meets (corner ax ay to corner bx by) (get_or (pairs ring.now) i origin to get_or (pairs ring.now) j origin) }
+fn meets_touching(ring: &BoxedRing, i: usize, j: usize, a: Corner, b: Corner) -> bool
+    requires { (i < length (pairs ring.now.corners.now)) × (j < length (pairs ring.now.corners.now)) × Near (corner_of b) (corner_of a) × (away (lower (corner_of a) (corner_of b)) (upper (corner_of a) (corner_of b)) (get_or (pairs ring.now.corners.now) i origin) (get_or (pairs ring.now.corners.now) j origin) ≡ false) }
+    ensures { result ≡ meets (corner_of a to corner_of b) (get_or (pairs ring.now.corners.now) i origin to get_or (pairs ring.now.corners.now) j origin) }
 {
-    let cx = corners::x_at(ring, i);
-    let cy = corners::y_at(ring, i);
-    let dx = corners::x_at(ring, j);
-    let dy = corners::y_at(ring, j);
-    meeting::straddles(ax, ay, bx, by, cx, cy, dx, dy)
+    meeting::straddles(a, b, ring.corner(i), ring.corner(j))
 }
 
-// Whether the edge a-b, whose box is from low to high, shares a point with an edge of the ring. The loop runs over the edges whose head is the next corner; the last
-// edge, which runs to the first corner, is tested beside it. `lows` and `highs` have the boxes of the ring's runs of edges, so that most edges are passed sixteen at a time.
-fn meets_by_box(
-    ring: &[i64],
-    lows: &[i64],
-    highs: &[i64],
-    ax: i64,
-    ay: i64,
-    bx: i64,
-    by: i64,
-    low_x: i64,
-    high_x: i64,
-    low_y: i64,
-    high_y: i64,
-) -> bool
-    requires { Accepted ring.now × Near (corner bx by) (corner ax ay) × BoxOf (corner ax ay) (corner bx by) low_x high_x low_y high_y × Boxed (pairs ring.now) (pairs lows.now) (pairs highs.now) }
-    ensures { result ≡ meets_one (corner ax ay to corner bx by) (edges (pairs ring.now)) }
+// Whether the edge a-b shares a point with an edge of the ring. The loop runs over the edges whose head is the next corner, and jumps over those that are away, most of
+// them sixteen at a time by the ring's boxes; the last edge, which runs to the first corner, is tested beside it.
+// `first_met_by` of ring_pairs has this loop too, over another test, and answers which edge it is.
+pub fn meets_ring(ring: &BoxedRing, a: Corner, b: Corner) -> bool
+    requires { Near (corner_of b) (corner_of a) }
+    ensures { result ≡ meets_one (corner_of a to corner_of b) (edges (pairs ring.now.corners.now)) }
 {
-    let last = ring.len() / 2 - 1;
+    let around = Reach::of(a, b);
+    let last = ring.last();
     let mut l = 0;
     while l < last {
-        l = search::next_near(ring, lows, highs, low_x, high_x, low_y, high_y, l, last);
+        l = search::next_near(ring.corners, ring.boxes, around, l, last);
         if l < last {
-            if meets_touching(ring, l, l + 1, ax, ay, bx, by) {
+            if meets_touching(ring, l, l + 1, a, b) {
                 return true;
             }
             l += 1;
         }
     }
-    if search::away_from(ring, last, ring, 0, low_x, high_x, low_y, high_y) {
-        return false;
-    }
-    meets_touching(ring, last, 0, ax, ay, bx, by)
-}
-
-// Whether the edge from corner i to j of one ring shares a point with an edge of another, whose runs have their boxes in `lows` and `highs`.
-pub fn meets_ring(
-    corners: &[i64],
-    i: usize,
-    j: usize,
-    ring: &[i64],
-    lows: &[i64],
-    highs: &[i64],
-) -> bool
-    requires { Accepted corners.now × Accepted ring.now × (i < length (pairs corners.now)) × (j < length (pairs corners.now)) × Boxed (pairs ring.now) (pairs lows.now) (pairs highs.now) }
-    ensures { result ≡ meets_one (get_or (pairs corners.now) i origin to get_or (pairs corners.now) j origin) (edges (pairs ring.now)) }
-{
-    let ax = corners::x_at(corners, i);
-    let ay = corners::y_at(corners, i);
-    let bx = corners::x_at(corners, j);
-    let by = corners::y_at(corners, j);
-    meets_by_box(
-        ring,
-        lows,
-        highs,
-        ax,
-        ay,
-        bx,
-        by,
-        ring_checks::lesser(ax, bx),
-        ring_checks::greater(ax, bx),
-        ring_checks::lesser(ay, by),
-        ring_checks::greater(ay, by),
-    )
+    !meeting::away(around, ring.corner(last), ring.corner(0)) && meets_touching(ring, last, 0, a, b)
 }

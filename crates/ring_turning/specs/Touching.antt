@@ -1,26 +1,15 @@
 -- What an edge tells of a point: that the point lies on it, or else what the edge adds to the turning number. Assumes nothing.
-use Rattle.std.specs.Prelude.{true, false, ℤ, pos, negsuc}
+use Rattle.std.specs.Prelude.{true, false, ℤ, pos, Option, Some, None}
+use Rattle.std.specs.declared.cmp.Ordering.{Ordering}
+use Rattle.std.specs.declared.cmp.Ordering.TheVariants.{Less, Equal, Greater}
 use Rattle.rules.specs.Rings.{Corner, Edge, turn, on}
-use Rattle.ring_corners.specs.declared.sides.Sign.{Sign}
-use Rattle.ring_corners.specs.declared.sides.Sign.TheVariants.{Positive, Zero, Negative}
-use Rattle.ring_turning.specs.declared.touching.Touch.{Touch}
-use Rattle.ring_turning.specs.declared.touching.Touch.TheVariants.{OnEdge, Adds}
 
-unfoldable pub touch_of : Corner → Edge → Touch
-touch_of p e = elim (on p e) [ true ↦ OnEdge | false ↦ Adds (turn p e) ]
+-- none where the point lies on the edge
+unfoldable pub touch_of : Corner → Edge → Option ℤ
+touch_of p e = elim (on p e) [ true ↦ None | false ↦ Some (turn p e) ]
 
--- the same by the sign of D: of an edge that runs north past the point, of one that runs south past it (turned about), and of one that ends at it or lies along it
-abbrev pub touch_rise : Sign → Touch
-touch_rise Positive = Adds (pos 1)
-touch_rise Zero = OnEdge
-touch_rise Negative = Adds (pos 0)
-
-abbrev pub touch_fall : Sign → Touch
-touch_fall Positive = Adds (negsuc 0)
-touch_fall Zero = OnEdge
-touch_fall Negative = Adds (pos 0)
-
-abbrev pub touch_flat : Sign → Touch
-touch_flat Positive = Adds (pos 0)
-touch_flat Zero = OnEdge
-touch_flat Negative = Adds (pos 0)
+-- the same by the sign of D, of an edge that adds z where D is above 0: 1 where it runs north past the point, -1 where it runs south past it (turned about), and 0 where it ends at the point or lies along it
+abbrev pub touch_by : ℤ → Ordering → Option ℤ
+touch_by z Greater = Some z
+touch_by z Equal = None
+touch_by z Less = Some (pos 0)

@@ -1,113 +1,67 @@
 // What an edge tells of a point, in one look: that the point lies on it, or else what the edge adds to the turning number. X alone decides where it can.
-ghost use Rattle.std.specs.Prelude.{◌≡◌, true, ◌<◌, pos, length, get_or};
+ghost use Rattle.std.specs.Prelude.{◌≡◌, ◌<◌, pos, length, get_or};
 ghost use Rattle.rules.specs.Rings.{◌to◌, origin, turn, between};
-ghost use Rattle.ring_corners.specs.Corners.{corner, pairs, Near, Accepted};
-ghost use Rattle.ring_turning.specs.Touching.{touch_of, touch_rise, touch_fall, touch_flat};
+ghost use Rattle.terms.specs.Papers.{corner_of};
+ghost use Rattle.ring_corners.specs.Corners.{pairs, Near};
+ghost use Rattle.ring_turning.specs.Touching.{touch_of, touch_by};
 
-use ring_corners::sides::Sign;
-use ring_corners::{corners, sides};
+use ring_corners::{Ring, sides};
+use std::cmp::Ordering;
+use terms::Corner;
 
-#[derive(Clone, Copy)]
-pub enum Touch {
-    OnEdge,
-    Adds(i64),
-}
-
-fn rise(s: Sign) -> Touch
-    ensures { result ≡ touch_rise s }
+// Of an edge that adds `turn` where D is above 0, and nothing where it is below.
+pub(crate) fn told(side: Ordering, turn: i64) -> Option<i64>
+    ensures { result ≡ touch_by turn side }
 {
-    match s {
-        Sign::Positive => Touch::Adds(1),
-        Sign::Zero => Touch::OnEdge,
-        Sign::Negative => Touch::Adds(0),
-    }
-}
-
-fn fall(s: Sign) -> Touch
-    ensures { result ≡ touch_fall s }
-{
-    match s {
-        Sign::Positive => Touch::Adds(-1),
-        Sign::Zero => Touch::OnEdge,
-        Sign::Negative => Touch::Adds(0),
-    }
-}
-
-fn flat(s: Sign) -> Touch
-    ensures { result ≡ touch_flat s }
-{
-    match s {
-        Sign::Positive => Touch::Adds(0),
-        Sign::Zero => Touch::OnEdge,
-        Sign::Negative => Touch::Adds(0),
+    match side {
+        Ordering::Greater => Some(turn),
+        Ordering::Equal => None,
+        Ordering::Less => Some(0),
     }
 }
 
 // Whether z lies between a and b.
+#[tactic(auto, unfolding(rules::specs::Rings::between))]
 fn amid(a: i64, b: i64, z: i64) -> bool
     ensures { result ≡ between a b z }
 {
-    if z < a {
-        if z < b {
-            return false;
-        }
-        return true;
-    }
-    if a < z {
-        if b < z {
-            return false;
-        }
-        return true;
-    }
-    true
-}
-
-// Of an edge that adds nothing and has p between its ends in X.
-fn beside_in_x(ax: i64, ay: i64, bx: i64, by: i64, px: i64, py: i64) -> Touch
-    requires { Near (corner bx by) (corner ax ay) × (between ax bx px ≡ true) × (turn (corner px py) (corner ax ay to corner bx by) ≡ pos 0) }
-    ensures { result ≡ touch_of (corner px py) (corner ax ay to corner bx by) }
-{
-    if amid(ay, by, py) {
-        return flat(sides::near_sign(ax, ay, bx, by, px, py));
-    }
-    Touch::Adds(0)
+    (a <= z && z <= b) || (b <= z && z <= a)
 }
 
 // Of an edge that adds nothing.
-fn beside(ax: i64, ay: i64, bx: i64, by: i64, px: i64, py: i64) -> Touch
-    requires { Near (corner bx by) (corner ax ay) × (turn (corner px py) (corner ax ay to corner bx by) ≡ pos 0) }
-    ensures { result ≡ touch_of (corner px py) (corner ax ay to corner bx by) }
+fn beside(a: Corner, b: Corner, p: Corner) -> Option<i64>
+    requires { Near (corner_of b) (corner_of a) × (turn (corner_of p) (corner_of a to corner_of b) ≡ pos 0) }
+    ensures { result ≡ touch_of (corner_of p) (corner_of a to corner_of b) }
 {
-    if amid(ax, bx, px) {
-        return beside_in_x(ax, ay, bx, by, px, py);
+    if amid(a.x, b.x, p.x) && amid(a.y, b.y, p.y) && sides::near_sign(a, b, p).is_eq() {
+        None
+    } else {
+        Some(0)
     }
-    Touch::Adds(0)
 }
 
-fn edge_touch(ax: i64, ay: i64, bx: i64, by: i64, px: i64, py: i64) -> Touch
-    requires { Near (corner bx by) (corner ax ay) × Near (corner ax ay) (corner bx by) }
-    ensures { result ≡ touch_of (corner px py) (corner ax ay to corner bx by) }
+#[tactic(auto, using(crate::specs::Laws::Touching::touch_rises, crate::specs::Laws::Touching::touch_falls, ring_corners::specs::Laws::Sides::turn_south, crate::specs::Laws::Touching::touch_north))]
+fn edge_touch(a: Corner, b: Corner, p: Corner) -> Option<i64>
+    requires { Near (corner_of b) (corner_of a) × Near (corner_of a) (corner_of b) }
+    ensures { result ≡ touch_of (corner_of p) (corner_of a to corner_of b) }
 {
-    if ax <= px {
-        if px < bx {
-            return rise(sides::passing_sign(ax, ay, bx, by, px, py));
+    if a.x <= p.x {
+        if p.x < b.x {
+            told(sides::passing_sign(a, b, p), 1)
+        } else {
+            beside(a, b, p)
         }
-        return beside(ax, ay, bx, by, px, py);
+    } else if b.x <= p.x {
+        told(sides::passing_sign(b, a, p), -1)
+    } else {
+        Some(0)
     }
-    if bx <= px {
-        return fall(sides::passing_sign(bx, by, ax, ay, px, py));
-    }
-    Touch::Adds(0)
 }
 
-// Of the edge from corner i to corner j.
-pub fn touch_at(corners: &[i64], i: usize, j: usize, px: i64, py: i64) -> Touch
-    requires { Accepted corners.now × (i < length (pairs corners.now)) × (j < length (pairs corners.now)) }
-    ensures { result ≡ touch_of (corner px py) (get_or (pairs corners.now) i origin to get_or (pairs corners.now) j origin) }
+// Of the edge from corner i to corner j: what it adds, or None where p lies on it.
+pub fn touch_at(ring: &Ring, i: usize, j: usize, p: Corner) -> Option<i64>
+    requires { (i < length (pairs ring.now.corners.now)) × (j < length (pairs ring.now.corners.now)) }
+    ensures { result ≡ touch_of (corner_of p) (get_or (pairs ring.now.corners.now) i origin to get_or (pairs ring.now.corners.now) j origin) }
 {
-    let ax = corners::x_at(corners, i);
-    let ay = corners::y_at(corners, i);
-    let bx = corners::x_at(corners, j);
-    let by = corners::y_at(corners, j);
-    edge_touch(ax, ay, bx, by, px, py)
+    edge_touch(ring.corner(i), ring.corner(j), p)
 }

@@ -1,71 +1,48 @@
 // The turning number: what each edge adds, by X alone where that decides, and their sum.
 ghost use Rattle.std.specs.Prelude.{◌≡◌, ◌<◌, length, get_or};
 ghost use Rattle.rules.specs.Rings.{◌to◌, origin, turn, turning_number};
-ghost use Rattle.ring_corners.specs.Corners.{corner, pairs, Near, Accepted};
-ghost use Rattle.ring_corners.specs.Sides.{rise_of, fall_of};
+ghost use Rattle.terms.specs.Papers.{corner_of};
+ghost use Rattle.ring_corners.specs.Corners.{pairs, Near};
 
-use ring_corners::sides::Sign;
-use ring_corners::{corners, sides};
+use crate::touching;
+use ring_corners::{Ring, corners, sides};
+use terms::Corner;
 
-pub fn rise(s: Sign) -> i64
-    ensures { result ≡ rise_of s }
+// What the edge adds, which X alone decides for most edges. `edge_touch(..).unwrap_or(0)` says the same, but looks for p on the edges that add nothing too: with it a
+// turning number took nearly twice as long.
+#[tactic(auto, using(crate::specs::Laws::Touching::turn_rise_told, crate::specs::Laws::Touching::turn_fall_told, ring_corners::specs::Laws::Sides::turn_south, ring_corners::specs::Laws::Sides::turn_north))]
+fn edge_turn(a: Corner, b: Corner, p: Corner) -> i64
+    requires { Near (corner_of b) (corner_of a) × Near (corner_of a) (corner_of b) }
+    ensures { result ≡ turn (corner_of p) (corner_of a to corner_of b) }
 {
-    match s {
-        Sign::Positive => 1,
-        Sign::Zero => 0,
-        Sign::Negative => 0,
-    }
-}
-
-pub fn fall(s: Sign) -> i64
-    ensures { result ≡ fall_of s }
-{
-    match s {
-        Sign::Positive => -1,
-        Sign::Zero => 0,
-        Sign::Negative => 0,
-    }
-}
-
-// What the edge from a to b adds at p.
-fn edge_turn(ax: i64, ay: i64, bx: i64, by: i64, px: i64, py: i64) -> i64
-    requires { Near (corner bx by) (corner ax ay) × Near (corner ax ay) (corner bx by) }
-    ensures { result ≡ turn (corner px py) (corner ax ay to corner bx by) }
-{
-    if ax <= px {
-        if px < bx {
-            return rise(sides::passing_sign(ax, ay, bx, by, px, py));
+    if a.x <= p.x {
+        if p.x < b.x {
+            touching::told(sides::passing_sign(a, b, p), 1).unwrap_or(0)
+        } else {
+            0
         }
-        return 0;
+    } else if b.x <= p.x {
+        touching::told(sides::passing_sign(b, a, p), -1).unwrap_or(0)
+    } else {
+        0
     }
-    if bx <= px {
-        return fall(sides::passing_sign(bx, by, ax, ay, px, py));
-    }
-    0
 }
 
-// What the edge from corner i to corner j adds at p.
-pub fn turn_at(corners: &[i64], i: usize, j: usize, px: i64, py: i64) -> i64
-    requires { Accepted corners.now × (i < length (pairs corners.now)) × (j < length (pairs corners.now)) }
-    ensures { result ≡ turn (corner px py) (get_or (pairs corners.now) i origin to get_or (pairs corners.now) j origin) }
+// What the edge from corner i to corner j adds at p: nothing where p lies on it.
+pub fn turn_at(ring: &Ring, i: usize, j: usize, p: Corner) -> i64
+    requires { (i < length (pairs ring.now.corners.now)) × (j < length (pairs ring.now.corners.now)) }
+    ensures { result ≡ turn (corner_of p) (get_or (pairs ring.now.corners.now) i origin to get_or (pairs ring.now.corners.now) j origin) }
 {
-    let ax = corners::x_at(corners, i);
-    let ay = corners::y_at(corners, i);
-    let bx = corners::x_at(corners, j);
-    let by = corners::y_at(corners, j);
-    edge_turn(ax, ay, bx, by, px, py)
+    edge_turn(ring.corner(i), ring.corner(j), p)
 }
 
-pub fn number(corners: &[i64], px: i64, py: i64) -> i64
-    requires { Accepted corners.now }
-    ensures { result ≡ turning_number (pairs corners.now) (corner px py) }
+pub fn number(ring: &Ring, p: Corner) -> i64
+    ensures { result ≡ turning_number (pairs ring.now.corners.now) (corner_of p) }
 {
-    let n = corners.len() / 2;
+    let n = ring.count();
     let mut sum: i64 = 0;
-    let mut i = 0;
-    while i < n {
-        sum += turn_at(corners, i, corners::next(i, n), px, py);
-        i += 1;
+    for i in 0..n {
+        sum += turn_at(ring, i, corners::next(i, n), p);
     }
     sum
 }

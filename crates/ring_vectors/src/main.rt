@@ -2,67 +2,46 @@
 // calls answers. A case is the length of a list of numbers, a point's X and Y, and the list; the length -1 stands for the list of the case before.
 #![tactic(auto)]
 
-ghost use Rattle.std.specs.Prelude.{◌≤◌, length, IfOk};
-
-use rings::{CrossingAnswer, NozzleAnswer, WholeAnswer};
 use std::io::Read;
 use std::{fmt, io};
+use terms::{Corner, Refusal};
+use vectors::Standing;
 
-// What a call answers, as a line has it.
+// What a call answers, as a line has it: its value, or the refusal, of a crossed ring with how many pairs of edges were looked at.
 #[derive(Clone, Copy)]
-struct Whole(WholeAnswer);
+struct Said<T>(Result<T, Refusal>);
 
-#[derive(Clone, Copy)]
-struct Crossing(CrossingAnswer);
-
-#[derive(Clone, Copy)]
-struct Nozzle(NozzleAnswer);
-
-impl fmt::Display for Whole {
+impl<T: fmt::Display> fmt::Display for Said<T> {
     fn fmt<W: fmt::Write>(&self, f: &mut fmt::Formatter<W>) -> fmt::Result {
-        match self.0 {
-            WholeAnswer::Is(number) => write!(f, "{number}"),
-            WholeAnswer::Refused(refusal) => write!(f, "refused {refusal}"),
+        match &self.0 {
+            Ok(value) => write!(f, "{value}"),
+            Err(Refusal::RingCrossed(pair)) => write!(
+                f,
+                "crossed {} {} looked {}",
+                pair.low, pair.high, pair.looked_at
+            ),
+            Err(refusal) => write!(f, "refused {}", refusal.number()),
         }
     }
 }
 
-// With how many pairs of edges were looked at.
-impl fmt::Display for Crossing {
-    fn fmt<W: fmt::Write>(&self, f: &mut fmt::Formatter<W>) -> fmt::Result {
-        match self.0 {
-            CrossingAnswer::Clean(looked) => write!(f, "clean looked {looked}"),
-            CrossingAnswer::Crossed(low, high, looked) => write!(
-                f,
-                "crossed {low} {high} looked {looked}"
-            ),
-            CrossingAnswer::Refused(refusal) => write!(f, "refused {refusal}"),
-        }
-    }
-}
+// A clean ring, with how many pairs of edges were looked at.
+#[derive(Clone, Copy)]
+struct Clean(u64);
 
-impl fmt::Display for Nozzle {
+impl fmt::Display for Clean {
     fn fmt<W: fmt::Write>(&self, f: &mut fmt::Formatter<W>) -> fmt::Result {
-        match self.0 {
-            NozzleAnswer::Open => write!(f, "open"),
-            NozzleAnswer::Border => write!(f, "border"),
-            NozzleAnswer::Shut => write!(f, "shut"),
-            NozzleAnswer::Crossed(low, high, looked) => write!(
-                f,
-                "crossed {low} {high} looked {looked}"
-            ),
-            NozzleAnswer::Refused(refusal) => write!(f, "refused {refusal}"),
-        }
+        write!(f, "clean looked {}", self.0)
     }
 }
 
 // Prints the line of one case, its number first.
-fn put_case(rt: &impl Print, number: u64, ring: &[i64], x: i64, y: i64) -> io::Result<()> {
-    let area = Whole(rings::area2(ring));
-    let turning = Whole(rings::turning_number(ring, x, y));
-    let crossing = Crossing(rings::crossing(ring));
-    let nozzle = Nozzle(rings::nozzle(ring, x, y));
-    let position = Nozzle(rings::position(ring, x, y));
+fn put_case(rt: &impl Print, number: u64, ring: &[i64], p: Corner) -> io::Result<()> {
+    let area = Said(rings::area2(ring));
+    let turning = Said(rings::turning_number(ring, p));
+    let crossing = Said(rings::crossing(ring).map(|looked| Clean(looked)));
+    let nozzle = Said(rings::nozzle(ring, p).map(|position| Standing(position)));
+    let position = Said(rings::position(ring, p).map(|position| Standing(position)));
     print!(rt; "{number} area2 {area} turning {turning} crossing {crossing}")?;
     println!(rt; " nozzle {nozzle} position {position}")
 }
@@ -95,16 +74,19 @@ fn one_case<R: Read>(
     let Some(ring) = numbers.get(..count) else {
         return Ok(None);
     };
-    let x = vectors::nth_number(&head, 1);
-    let y = vectors::nth_number(&head, 2);
-    put_case(rt, number, ring, x, y)?;
+    let p = Corner {
+        x: vectors::nth_number(&head, 1),
+        y: vectors::nth_number(&head, 2),
+    };
+    put_case(rt, number, ring, p)?;
     Ok(Some(count))
 }
 
 fn main(rt: HostRuntime) -> io::Result<()> {
     let mut input = rt.reader();
-    let mut numbers = vectors::number_room();
+    let mut numbers = [0i64; 2051];
     let mut count = 0;
+    // A count, because every loop has to end; no input of the gate is so long.
     for number in 1..1000000u64 {
         match one_case(&rt, &mut input, &mut numbers, number, count)? {
             Some(length) => count = length,

@@ -5,64 +5,66 @@ ghost use Rattle.rules.specs.Crossing.{crossed};
 ghost use Rattle.rules.specs.RingAnswers.{not_crossed};
 ghost use Rattle.rings.specs.Answers.{crossing_paper};
 ghost use Rattle.rings.specs.Found.{found_pair};
-ghost use Rattle.ring_boxes.specs.Boxes.{Boxed};
-ghost use Rattle.ring_corners.specs.Corners.{pairs, Accepted};
+ghost use Rattle.ring_corners.specs.Corners.{pairs};
 
-use crate::{CrossingAnswer, looked};
+use crate::looked;
+use ring_boxes::BoxedRing;
+use ring_corners::Ring;
 use ring_pairs::search;
+use terms::{CrossedPair, Refusal};
 
-// The pair as one number: an answer of several would be stored, copied and read again, which a ring of six corners feels (a tenth of its time, as measured).
-// `lows` and `highs` have the boxes of the ring's runs, or are empty.
-fn search(corners: &[i64], lows: &[i64], highs: &[i64]) -> usize
-    requires { Accepted corners.now × Boxed (pairs corners.now) (pairs lows.now) (pairs highs.now) }
-    ensures { found_pair result ≡ crossed (pairs corners.now) }
+// The pair as one number, or 1,048,576 where there is none: an answer of several would be stored, copied and read again, which a ring of six corners feels (a tenth of
+// its time, as measured).
+fn search(ring: &BoxedRing) -> usize
+    ensures { found_pair result ≡ crossed (pairs ring.now.corners.now) }
 {
-    let last = corners.len() / 2 - 1;
-    let mut k = 0;
-    while k < last {
-        let l = search::later(corners, lows, highs, k, last);
-        if l <= last {
+    for k in 0..ring.last() {
+        if let Some(l) = search::later(ring, k) {
             return 1024 * k + l;
         }
-        k += 1;
     }
     1048576
 }
 
-fn search_by_runs(corners: &[i64]) -> usize
-    requires { Accepted corners.now }
-    ensures { found_pair result ≡ crossed (pairs corners.now) }
+fn search_by_runs(ring: &Ring) -> usize
+    ensures { found_pair result ≡ crossed (pairs ring.now.corners.now) }
 {
-    let mut lows = [0i64; 128];
-    let mut highs = [0i64; 128];
-    let last = corners.len() / 2 - 1;
-    ring_boxes::fill(corners, last, &mut lows, &mut highs);
-    search(corners, &lows, &highs)
+    let mut boxes = ring_boxes::UNFILLED;
+    ring_boxes::fill(ring, &mut boxes);
+    let boxed = BoxedRing {
+        corners: ring.corners,
+        boxes: &boxes,
+    };
+    search(&boxed)
 }
 
 // Up to 24 corners, filling the boxes takes longer than they save.
-fn search_all(corners: &[i64]) -> usize
-    requires { Accepted corners.now }
-    ensures { found_pair result ≡ crossed (pairs corners.now) }
+fn search_all(ring: &Ring) -> usize
+    ensures { found_pair result ≡ crossed (pairs ring.now.corners.now) }
 {
-    if 48 < corners.len() {
-        return search_by_runs(corners);
+    if 24 < ring.count() {
+        search_by_runs(ring)
+    } else {
+        search(&BoxedRing::plain(ring))
     }
-    let none = &corners[0..0];
-    search(corners, none, none)
 }
 
-pub fn first_pair(corners: &[i64]) -> CrossingAnswer
-    requires { Accepted corners.now }
-    ensures { crossing_paper result ≡ not_crossed (pairs corners.now) }
+// All pairs of edges where none is crossed, or the refusal of the first that is.
+pub fn first_pair(ring: &Ring) -> Result<u64, Refusal>
+    ensures { crossing_paper result ≡ not_crossed (pairs ring.now.corners.now) }
 {
-    let edges = corners.len() / 2;
-    let pair = search_all(corners);
+    let edges = ring.count();
+    let pair = search_all(ring);
     if pair < 1048576 {
         let low = pair / 1024;
         let high = pair % 1024;
         let place = looked::place_of(low, high, edges);
-        return CrossingAnswer::Crossed(low as u64, high as u64, place as u64);
+        return Err(Refusal::RingCrossed(CrossedPair {
+            ring: 0,
+            low: low as u64,
+            high: high as u64,
+            looked_at: place as u64,
+        }));
     }
-    CrossingAnswer::Clean(looked::pairs_of(edges) as u64)
+    Ok(looked::pairs_of(edges) as u64)
 }

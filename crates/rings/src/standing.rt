@@ -1,47 +1,37 @@
 // Where a point stands to an accepted ring: on its border, or inside or outside by the turning number. One pass over the edges tells both.
-ghost use Rattle.std.specs.Prelude.{◌≡◌, true, false};
-ghost use Rattle.rules.specs.Refusals.{answered};
-ghost use Rattle.rules.specs.Rings.{is_zero};
+ghost use Rattle.std.specs.Prelude.{◌≡◌};
 ghost use Rattle.rules.specs.RingAnswers.{nozzle};
-ghost use Rattle.rings.specs.Answers.{nozzle_paper};
-ghost use Rattle.ring_corners.specs.Corners.{corner, pairs, Accepted};
+ghost use Rattle.ring_corners.specs.Corners.{pairs};
 ghost use Rattle.rings.specs.Standing.{settled_as};
+ghost use Rattle.terms.specs.Papers.{corner_of, nozzle_of};
 
-use crate::NozzleAnswer;
-use ring_corners::corners;
+use ring_corners::{Ring, corners};
 use ring_turning::touching;
-use ring_turning::touching::Touch;
+use terms::{Corner, Position};
 
 // Of a point that lies on no edge, by its turning number.
-fn settled(sum: i64) -> NozzleAnswer
-    ensures { nozzle_paper result ≡ answered (settled_as sum) }
+#[tactic(auto, unfolding(crate::specs::Standing::settled_as))]
+fn settled(sum: i64) -> Position
+    ensures { nozzle_of result ≡ settled_as sum }
 {
-    if 0 < sum {
-        return NozzleAnswer::Open;
+    if sum == 0 {
+        Position::Shut
+    } else {
+        Position::Open
     }
-    if sum < 0 {
-        return NozzleAnswer::Open;
-    }
-    NozzleAnswer::Shut
 }
 
-pub fn standing(corners: &[i64], px: i64, py: i64) -> NozzleAnswer
-    requires { Accepted corners.now }
-    ensures { nozzle_paper result ≡ answered (nozzle (pairs corners.now) (corner px py)) }
+#[tactic(auto, using(ring_corners::specs::Laws::Flat::next_inside, crate::proofs::Laws::Standing::passing_end, crate::proofs::Laws::Standing::passing_fits, crate::proofs::Laws::Standing::hit))]
+pub fn standing(ring: &Ring, p: Corner) -> Position
+    ensures { nozzle_of result ≡ nozzle (pairs ring.now.corners.now) (corner_of p) }
 {
-    let n = corners.len() / 2;
+    let n = ring.count();
     let mut sum: i64 = 0;
-    let mut i = 0;
-    while i < n {
-        match touching::touch_at(corners, i, corners::next(i, n), px, py) {
-            Touch::OnEdge => {
-                return NozzleAnswer::Border;
-            }
-            Touch::Adds(turn) => {
-                sum += turn;
-                i += 1;
-            }
-        }
+    for i in 0..n {
+        let Some(turn) = touching::touch_at(ring, i, corners::next(i, n), p) else {
+            return Position::Border;
+        };
+        sum += turn;
     }
     settled(sum)
 }

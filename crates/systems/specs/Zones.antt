@@ -1,20 +1,17 @@
 -- What the code's row of a system stands for: the paper's row (rules, Systems). Assumes nothing.
-use Rattle.std.specs.Prelude.{Bool, true, false, ◌||◌, ◌≡◌, ℕ, ◌*◌, ◌^◌, ◌≤◌, ℤ, pos, nat_abs, ◌*ℤ◌, ◌≤ℤ◌}
+use Rattle.std.specs.Prelude.{Bool, Result, Ok, Err, ◌||◌, ◌≡◌, ℕ, ◌^◌, ◌≤◌, ℤ, pos, nat_abs, ◌*ℤ◌, ◌≤ℤ◌}
 use Rattle.std.specs.Int.Signed.{lt_z}
 use Rattle.rules.specs.Units.{millimetres_in_metre}
-use Rattle.rules.specs.Refusals.{Answer, answered, refused, code_unknown}
-use Rattle.rules.specs.Systems.{System, Ellipsoid, GRS_80, Krasovsky, system}
+use Rattle.rules.specs.Refusals.{Answer, answered, Passed, ◌>>◌, ◌if◌, latitude_outside, longitude_outside}
+use Rattle.rules.specs.Systems.{System, system}
+use Rattle.rules.specs.Points.{latitude_bad, longitude_bad}
+use Rattle.terms.specs.Papers.{ellipsoid_of, refusal_paper}
+use Rattle.terms.specs.declared.refusals.Refusal.{Refusal}
 use Rattle.systems.specs.declared.Zone.{Zone}
-use Rattle.systems.specs.declared.ZoneAnswer.{ZoneAnswer}
-use Rattle.systems.specs.declared.ZoneAnswer.TheVariants.{Known, Unknown}
-
-abbrev pub ellipsoid_of : Bool → Ellipsoid
-ellipsoid_of true = Krasovsky
-ellipsoid_of false = GRS_80
 
 -- the code's row z says what the paper's row s says: L0 and half-width in ticks, m0 in millionths, the offsets in millimetres
 pub record Stands (z : Zone) (s : System) : Type 0 where
-  pub ellipsoid : s.ellipsoid ≡ ellipsoid_of z.krasovsky
+  pub ellipsoid : s.ellipsoid ≡ ellipsoid_of z.ellipsoid
   pub meridian : s.L0 ≡ z.meridian
   pub reach : pos s.half_width ≡ z.reach
   pub scale : s.m0 ≡ z.millionths *ℤ pos (10 ^ 18)
@@ -31,11 +28,15 @@ pub record Sized (z : Zone) : Type 0 where
   pub north : nat_abs z.north ≤ 10_000_000_000
   pub east : nat_abs z.east ≤ 10_000_000_000
 
--- what the answer for a code says: refusal 1, or a row that stands for the paper's row of that code
-abbrev pub Found : ℕ → ZoneAnswer → Type 0
-Found code Unknown = system code ≡ refused code_unknown
-Found code (Known z) = (s : System) × (system code ≡ answered s) × Stands z s × Sized z
+-- what the answer for a code says: a row that stands for the paper's row of that code, or the paper's refusal
+abbrev pub Found : ℕ → Result Zone Refusal → Type 0
+Found code (Err refusal) = system code ≡ refusal_paper refusal
+Found code (Ok z) = (s : System) × (system code ≡ answered s) × Stands z s × Sized z
 
 -- outside two ends, which are allowed
 abbrev pub beyond : ℤ → ℤ → ℤ → Bool
 beyond low high number = lt_z number low || lt_z high number
+
+-- the checks 2 and 3 of a point, in their order
+abbrev pub point_checks : System → ℤ → ℤ → Answer Passed
+point_checks s B L = (latitude_outside if latitude_bad B) >> (longitude_outside if longitude_bad s L)

@@ -1,9 +1,11 @@
 -- What a call of the C interface owes for an answer: the number that it returns is `refusal-of` of crate rings (0, or the refusal), and the lent arrays
 -- hold what is defined here. Definitions only.
-use Rattle.std.specs.Prelude.{List, [], ◌∷◌, ℕ, ℤ, pos}
+use Rattle.std.specs.Prelude.{List, [], ◌∷◌, ℕ, ◌<◌, ℤ, pos}
 use Rattle.rules.specs.Refusals.{Answer, answered, refused, crossed_at}
 use Rattle.rules.specs.Points.{Point, Ticks}
 use Rattle.rules.specs.Rings.{Corner}
+use Rattle.terms.specs.declared.refusals.Refusal.{Refusal}
+use Rattle.terms.specs.declared.refusals.Refusal.TheVariants.{RingCrossed}
 -- the array lent for an answer, the one for the place of refusal 9 in a field, and what the header says for shut, open and border
 pub use Rattle.terminal_fields.specs.Lent.{lent, place_lent, nozzle_number}
 
@@ -24,6 +26,20 @@ abbrev pub looked_lent : Answer ℕ → List ℤ → List ℤ
 looked_lent (answered looked) before = pos looked ∷ []
 looked_lent (refused n) before = before
 looked_lent (crossed_at pair) before = pos pair.looked_at ∷ []
+
+-- the same of a refusal by itself
+abbrev pub edges_of : Refusal → List ℤ → List ℤ
+edges_of (RingCrossed pair) before = pos pair.low ∷ pos pair.high ∷ []
+edges_of refusal before = before
+
+abbrev pub pairs_of : Refusal → List ℤ → List ℤ
+pairs_of (RingCrossed pair) before = pos pair.looked_at ∷ []
+pairs_of refusal before = before
+
+-- an i64 holds the numbers of its place
+abbrev pub Held : Refusal → Type 0
+Held (RingCrossed pair) = (pair.low < 1_000_000) × (pair.high < 1_000_000) × (pair.looked_at < 1_000_000)
+Held refusal = Unit
 
 -- ---- the numbers of each kind of answer
 abbrev pub point_numbers : Point → List ℤ

@@ -14,11 +14,9 @@ ghost use Rattle.projection.specs.Inverse.{worked_inverse};
 ghost use Rattle.projection.specs.Worked.{worked_forward};
 ghost use Rattle.conversion.specs.Plane.{worked_plane};
 ghost use Rattle.conversion.specs.Ring.{worked_conversion};
-ghost use Rattle.terminal.specs.Lent.{lent, edges_lent, pairs_lent, looked_lent, place_lent, point_numbers, tick_numbers, plane_numbers, whole_number, nozzle_number};
+ghost use Rattle.terminal.specs.Lent.{Held, edges_of, pairs_of, lent, edges_lent, pairs_lent, looked_lent, place_lent, point_numbers, tick_numbers, plane_numbers, whole_number, nozzle_number};
 
-use conversion::Verdict;
-use projection::{ForwardAnswer, InverseAnswer, PlaneAnswer};
-use rings::{CrossingAnswer, NozzleAnswer, WholeAnswer};
+use terms::{Corner, Refusal};
 
 // Latitude and longitude to plane: X, Y, scale and convergence.
 #[unsafe(no_mangle)]
@@ -28,11 +26,11 @@ pub extern "C" fn misgwalor_forward(code: u8, b: i64, l: i64, answer: &mut [i64;
     ensures band { ShowsBoth (RightForward code b l) refusal_of (λ a. lent point_numbers a answer.old) result answer.new }
 {
     match projection::forward(code, b, l) {
-        ForwardAnswer::Refused(n) => n,
-        ForwardAnswer::Point(x, y, scale, convergence) => {
-            *answer = [x, y, scale, convergence];
+        Ok(point) => {
+            *answer = [point.x, point.y, point.scale, point.convergence];
             0
         }
+        Err(point_refused) => point_refused.number(),
     }
 }
 
@@ -44,11 +42,11 @@ pub extern "C" fn misgwalor_inverse(code: u8, x: i64, y: i64, answer: &mut [i64;
     ensures band { ShowsBoth (RightInverse code x y) refusal_of (λ a. lent tick_numbers a answer.old) result answer.new }
 {
     match projection::inverse(code, x, y) {
-        InverseAnswer::Refused(n) => n,
-        InverseAnswer::Ticks(b, l) => {
-            *answer = [b, l];
+        Ok(ticks) => {
+            *answer = [ticks.latitude, ticks.longitude];
             0
         }
+        Err(ticks_refused) => ticks_refused.number(),
     }
 }
 
@@ -66,11 +64,11 @@ pub extern "C" fn misgwalor_plane_to_plane(
     ensures band { ShowsBoth (RightPlane source target x y) refusal_of (λ a. lent plane_numbers a answer.old) result answer.new }
 {
     match conversion::plane_to_plane(source, target, x, y) {
-        PlaneAnswer::Refused(n) => n,
-        PlaneAnswer::At(to_x, to_y) => {
-            *answer = [to_x, to_y];
+        Ok(moved) => {
+            *answer = [moved.x, moved.y];
             0
         }
+        Err(move_refused) => move_refused.number(),
     }
 }
 
@@ -87,8 +85,8 @@ pub extern "C" fn misgwalor_convert_ring(
     ensures band { ShowsBoth (RightConversion source target corners.now output.old) refusal_of (λ a. held a output.old) result output.new }
 {
     match conversion::convert_ring(source, target, corners, output) {
-        Verdict::Refused(n) => n,
-        Verdict::Passed => 0,
+        Ok(()) => 0,
+        Err(ring_refused) => ring_refused.number(),
     }
 }
 
@@ -99,11 +97,11 @@ pub extern "C" fn misgwalor_area2(corners: &[i64], answer: &mut [i64; 1]) -> u8
     ensures holds { answer.new ≡ lent whole_number (area_answer corners.now) answer.old }
 {
     match rings::area2(corners) {
-        WholeAnswer::Refused(refusal) => refusal,
-        WholeAnswer::Is(area) => {
+        Ok(area) => {
             *answer = [area];
             0
         }
+        Err(area_refused) => area_refused.number(),
     }
 }
 
@@ -118,12 +116,25 @@ pub extern "C" fn misgwalor_turning_number(
     ensures number { result ≡ refusal_of (turning_answer corners.now (corner px py)) }
     ensures holds { answer.new ≡ lent whole_number (turning_answer corners.now (corner px py)) answer.old }
 {
-    match rings::turning_number(corners, px, py) {
-        WholeAnswer::Refused(n) => n,
-        WholeAnswer::Is(turns) => {
+    match rings::turning_number(corners, Corner { x: px, y: py }) {
+        Ok(turns) => {
             *answer = [turns];
             0
         }
+        Err(turns_refused) => turns_refused.number(),
+    }
+}
+
+// Writes on 9 the first crossed pair of edges, and how many pairs of edges were looked at.
+// As `mark` of terminal_fields, for two arrays without the ring, as the C interface has them.
+fn mark(refusal: Refusal, edges: &mut [i64; 2], pairs: &mut [i64; 1])
+    requires { Held refusal }
+    ensures edges { edges.new ≡ edges_of refusal edges.old }
+    ensures looked { pairs.new ≡ pairs_of refusal pairs.old }
+{
+    if let Refusal::RingCrossed(pair) = refusal {
+        *edges = [pair.low as i64, pair.high as i64];
+        *pairs = [pair.looked_at as i64];
     }
 }
 
@@ -139,15 +150,13 @@ pub extern "C" fn misgwalor_crossing(
     ensures looked { pairs.new ≡ looked_lent (crossing_answer corners.now) pairs.old }
 {
     match rings::crossing(corners) {
-        CrossingAnswer::Clean(all) => {
+        Ok(all) => {
             *pairs = [all as i64];
             0
         }
-        CrossingAnswer::Refused(n) => n,
-        CrossingAnswer::Crossed(low, high, place) => {
-            *edges = [low as i64, high as i64];
-            *pairs = [place as i64];
-            9
+        Err(refusal) => {
+            mark(refusal, edges, pairs);
+            refusal.number()
         }
     }
 }
@@ -167,26 +176,11 @@ pub extern "C" fn misgwalor_nozzle(
     ensures edges { edges.new ≡ edges_lent (nozzle_answer corners.now (corner px py)) edges.old }
     ensures looked { pairs.new ≡ pairs_lent (nozzle_answer corners.now (corner px py)) pairs.old }
 {
-    match rings::nozzle(corners, px, py) {
-        NozzleAnswer::Refused(n) => n,
-        NozzleAnswer::Crossed(first, second, looked) => {
-            *edges = [first as i64, second as i64];
-            *pairs = [looked as i64];
-            9
-        }
-        NozzleAnswer::Shut => {
-            *answer = [0];
-            0
-        }
-        NozzleAnswer::Open => {
-            *answer = [1];
-            0
-        }
-        NozzleAnswer::Border => {
-            *answer = [2];
-            0
-        }
+    let said = rings::nozzle(corners, Corner { x: px, y: py });
+    if let Err(refusal) = said {
+        mark(refusal, edges, pairs);
     }
+    terminal_fields::store(said, answer)
 }
 
 // Whether a field is accepted: `counts` has the corners of each ring, the outer one first, and `corners` the rings one after the other. On 9 `place` has the ring, its two

@@ -3,15 +3,14 @@
 ghost use Rattle.std.specs.Prelude.{◌≡◌, ◌%◌, ◌/◌};
 ghost use Rattle.vectors.specs.Words.{word_of};
 
-use crate::{Outcome, Tally, distance, nth_number, nth_word};
+use crate::{Outcome, Tally, distance, nth_number, nth_word, read_record};
 use std::io;
 
 // Where a run over the records stands.
-#[derive(Clone, Copy)]
+#[derive(Clone, Copy, Debug, PartialEq, Eq)]
 pub struct Groups {
     tally: Tally,
-    group: u64,
-    begun: bool,
+    group: Option<u64>,
 }
 
 // The source code of a record, and the target code behind it.
@@ -27,18 +26,15 @@ pub fn target_of(record: &[u8]) -> u8
     (nth_word(record, 0) / 256 % 256) as u8
 }
 
-// How an answer of four numbers came out, or of two.
-pub fn outcome_of_four(record: &[u8], a: i64, b: i64, c: i64, d: i64) -> Outcome {
-    Outcome::Answered(
-        distance(a, nth_number(record, 4)),
-        distance(b, nth_number(record, 5)),
-        distance(c, nth_number(record, 6)),
-        distance(d, nth_number(record, 7)),
-    )
-}
-
-pub fn outcome_of_two(record: &[u8], a: i64, b: i64) -> Outcome {
-    outcome_of_four(record, a, b, 0, 0)
+// How far an answer's numbers are from those of a record, of which those past the call's own are 0.
+pub fn distances(record: &[u8], answer: [i64; 4]) -> [u64; 4] {
+    let [first, second, third, fourth] = answer;
+    [
+        distance(first, nth_number(record, 4)),
+        distance(second, nth_number(record, 5)),
+        distance(third, nth_number(record, 6)),
+        distance(fourth, nth_number(record, 7)),
+    ]
 }
 
 fn group_of(code: u64) -> u64 {
@@ -50,30 +46,31 @@ impl Groups {
     pub fn new(band: u64) -> Groups {
         Groups {
             tally: Tally::new(band),
-            group: 0,
-            begun: false,
+            group: None,
         }
     }
 
     // Prints the line of the group that stands.
-    pub fn close(self, rt: &impl Print, name: &[u8]) -> io::Result<()> {
-        self.tally.print(rt, name, self.group)
+    pub fn close(self, rt: &impl Print, name: &str) -> io::Result<()> {
+        self.tally.print(rt, name, self.group.unwrap_or(0))
     }
 
     // The tally to go on with: the group's own, or a new one, the line of the group before being printed.
-    fn tally_for(self, rt: &impl Print, name: &[u8], group: u64) -> io::Result<Tally> {
-        if !self.begun || self.group == group {
-            return Ok(self.tally);
+    fn tally_for(self, rt: &impl Print, name: &str, group: u64) -> io::Result<Tally> {
+        match self.group {
+            Some(before) if before != group => {
+                self.close(rt, name)?;
+                Ok(Tally::new(self.tally.band))
+            }
+            _ => Ok(self.tally),
         }
-        self.close(rt, name)?;
-        Ok(Tally::new(self.tally.band))
     }
 
     // The run with one record more.
     pub fn with(
         self,
         rt: &impl Print,
-        name: &[u8],
+        name: &str,
         record: &[u8],
         outcome: Outcome,
     ) -> io::Result<Groups> {
@@ -81,8 +78,28 @@ impl Groups {
         let tally = self.tally_for(rt, name, group)?;
         Ok(Groups {
             tally: tally.with(nth_word(record, 3), outcome),
-            group,
-            begun: true,
+            group: Some(group),
         })
     }
+}
+
+// Holds what a call makes of each record of the input to the true values there, and prints the line of each group.
+pub fn hold_records<F: Fn(&[u8]) -> Outcome>(
+    rt: &(impl Input + Print),
+    name: &str,
+    band: u64,
+    outcome_of: F,
+) -> io::Result<()>
+    requires { F.IsAlwaysCallable outcome_of }
+{
+    let mut input = rt.reader();
+    let mut groups = Groups::new(band);
+    // A count, because every loop has to end; no input of the gate is so long.
+    for _ in 0..1000000u64 {
+        let Some(record) = read_record::<64, _>(&mut input)? else {
+            return groups.close(rt, name);
+        };
+        groups = groups.with(rt, name, &record, outcome_of(&record))?;
+    }
+    Ok(())
 }

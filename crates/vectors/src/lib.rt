@@ -1,17 +1,19 @@
 // What the test programs read by and count with: numbers of 8 bytes out of lent bytes, records and lists out of a reader, and the tallies that are printed of them. No
-// function here has a `requires`: a number that is not there is 0. Which bytes are read is proved; that the tallies are right is seen by the programs' output.
+// function here asks anything of the input: a number that is not there is 0. Which bytes are read is proved; that the tallies are right is seen by the programs' output.
 #![tactic(auto)]
 
 mod groups;
 mod lists;
+mod said;
 mod tally;
 
 ghost use Rattle.std.specs.Prelude.{◌≡◌, ◌≤◌, ◌<◌, length, take, IfOk, IfSome, IfNone};
 ghost use Rattle.std.specs.Io.KnownBytes.{Consumes, IsAtEnd};
 ghost use Rattle.vectors.specs.Words.{word_of, number_of};
 
-pub use groups::{Groups, outcome_of_four, outcome_of_two, source_of, target_of};
-pub use lists::{number_room, take_list};
+pub use groups::{Groups, distances, hold_records, source_of, target_of};
+pub use lists::{spread, take_list};
+pub use said::Standing;
 use std::io;
 use std::io::Read;
 pub use tally::{Outcome, PLANE_BAND, TICK_BAND, Tally, distance};
@@ -43,6 +45,7 @@ pub fn read_full<R: Read>(input: &mut R, bytes: &mut [u8]) -> io::Result<usize>
     ensures ended { IfOk result (λ count. count < length bytes.new → IsAtEnd (R.remaining input.new)) }
 {
     let mut count = 0;
+    // No `for`: each turn is a read, which says how far the next one starts.
     while count < bytes.len() {
         let got = input.read(&mut bytes[count..])?;
         if got == 0 {

@@ -1,35 +1,24 @@
 // Lists of numbers out of a reader: each as long as a ring of 1,025 corners and one number more, at most.
-ghost use Rattle.std.specs.Prelude.{◌≤◌, length, ◌≡◌, IfOk};
+ghost use Rattle.std.specs.Prelude.{◌≤◌, length, IfOk};
 
 use crate::{nth_number, read_full};
 use std::io;
 use std::io::Read;
 
-// Room for a list.
-pub fn number_room() -> [i64; 2051]
-    ensures { 2051 ≡ length result }
-{
-    [0; 2051]
-}
-
-fn byte_room() -> [u8; 16408]
-    ensures { 16408 ≡ length result }
-{
-    [0; 16408]
-}
-
-// Lays out the first `count` numbers that were read, and answers how many of them there is room for.
-fn spread(numbers: &mut [i64], bytes: &[u8], count: usize) -> usize
+// Lays out the first `count` numbers that were read, as `nth` has them, and answers how many of them there is room for.
+pub fn spread<T: Copy, F: Fn(&[u8], usize) -> T>(
+    numbers: &mut [T],
+    bytes: &[u8],
+    count: usize,
+    nth: F,
+) -> usize
+    requires { F.IsAlwaysCallable nth }
     ensures within { result ≤ count }
     ensures room { result ≤ length numbers.new }
 {
-    let mut spread = 0;
-    for (k, number) in numbers.iter_mut().enumerate() {
-        if count <= k {
-            break;
-        }
-        *number = nth_number(bytes, k);
-        spread = k + 1;
+    let spread = count.min(numbers.len());
+    for (k, number) in numbers[..spread].iter_mut().enumerate() {
+        *number = nth(bytes, k);
     }
     spread
 }
@@ -42,7 +31,7 @@ pub fn take_list<R: Read>(input: &mut R, numbers: &mut [i64], count: usize) -> i
     if 2051 < count {
         return Ok(0);
     }
-    let mut bytes = byte_room();
+    let mut bytes = [0u8; 16408];
     let got = read_full(input, &mut bytes[..count * 8])?;
-    Ok(spread(numbers, &bytes, got / 8))
+    Ok(spread(numbers, &bytes, got / 8, nth_number))
 }

@@ -9,14 +9,10 @@ pub const TICK_BAND: u64 = 600000;
 
 const FAR: u64 = 1000000000000;
 
-// How an answer came out: its distances from the true values in millionths (0 where a call has fewer than four numbers), or a refusal.
-#[derive(Clone, Copy)]
-pub enum Outcome {
-    Answered(u64, u64, u64, u64),
-    Refused(u64),
-}
+// How an answer came out: its distances from the true values in millionths (0 where a call has fewer than four numbers), or a refusal's number.
+pub type Outcome = Result<[u64; 4], u64>;
 
-#[derive(Clone, Copy)]
+#[derive(Clone, Copy, Debug, PartialEq, Eq)]
 pub struct Tally {
     pub band: u64,
     pub points: u64,
@@ -24,18 +20,7 @@ pub struct Tally {
     pub outside: u64,
     pub refused: u64,
     pub wrong: u64,
-    pub first: u64,
-    pub second: u64,
-    pub third: u64,
-    pub fourth: u64,
-}
-
-fn more(count: u64) -> u64 {
-    if count < FAR { count + 1 } else { count }
-}
-
-fn within(band: u64, a: u64, b: u64, c: u64, d: u64) -> bool {
-    a.max(b).max(c).max(d) <= band
+    pub largest: [u64; 4],
 }
 
 // The sum of two sizes, for numbers on either side of 0.
@@ -70,43 +55,38 @@ impl Tally {
             outside: 0,
             refused: 0,
             wrong: 0,
-            first: 0,
-            second: 0,
-            third: 0,
-            fourth: 0,
+            largest: [0; 4],
         }
     }
 
     fn with_wrong(mut self) -> Tally {
-        self.wrong = more(self.wrong);
+        self.wrong = self.wrong.saturating_add(1);
         self
     }
 
-    fn with_band(mut self, held: bool) -> Tally {
-        if !held {
-            self.outside = more(self.outside);
+    fn with_band(mut self, distances: [u64; 4]) -> Tally {
+        let band = self.band;
+        if distances.iter().any(|distance| band < *distance) {
+            self.outside = self.outside.saturating_add(1);
         }
         self
     }
 
-    fn with_point(mut self, a: u64, b: u64, c: u64, d: u64) -> Tally {
-        self.points = more(self.points);
-        self.first = self.first.max(a);
-        self.second = self.second.max(b);
-        self.third = self.third.max(c);
-        self.fourth = self.fourth.max(d);
-        let held = within(self.band, a, b, c, d);
-        self.with_band(held)
+    fn with_point(mut self, distances: [u64; 4]) -> Tally {
+        self.points = self.points.saturating_add(1);
+        for (largest, distance) in self.largest.iter_mut().zip(distances.iter()) {
+            *largest = (*largest).max(*distance);
+        }
+        self.with_band(distances)
     }
 
-    fn with_near(mut self, a: u64, b: u64, c: u64, d: u64) -> Tally {
-        self.near = more(self.near);
-        let held = within(self.band, a, b, c, d);
-        self.with_band(held)
+    fn with_near(mut self, distances: [u64; 4]) -> Tally {
+        self.near = self.near.saturating_add(1);
+        self.with_band(distances)
     }
 
     fn with_refusal(mut self, expected: u64, refusal: u64) -> Tally {
-        self.refused = more(self.refused);
+        self.refused = self.refused.saturating_add(1);
         if expected == refusal {
             return self;
         }
@@ -115,24 +95,17 @@ impl Tally {
 
     // The tally with one record more.
     pub fn with(self, expected: u64, outcome: Outcome) -> Tally {
-        match outcome {
-            Outcome::Refused(refusal) => self.with_refusal(expected, refusal),
-            Outcome::Answered(a, b, c, d) => {
-                if expected == 0 {
-                    return self.with_point(a, b, c, d);
-                }
-                if expected == 255 {
-                    return self.with_near(a, b, c, d);
-                }
-                self.with_wrong()
-            }
+        match (outcome, expected) {
+            (Err(refusal), _) => self.with_refusal(expected, refusal),
+            (Ok(distances), 0) => self.with_point(distances),
+            (Ok(distances), 255) => self.with_near(distances),
+            (Ok(_), _) => self.with_wrong(),
         }
     }
 
     // Prints the group's line: the call's name, the group, and what was counted.
-    pub fn print(self, rt: &impl Print, name: &[u8], group: u64) -> io::Result<()> {
-        rt.write_all(name)?;
-        println!(rt; " {group}{self}")
+    pub fn print(self, rt: &impl Print, name: &str, group: u64) -> io::Result<()> {
+        println!(rt; "{name} {group}{self}")
     }
 }
 
@@ -144,9 +117,10 @@ impl fmt::Display for Tally {
             " points {} near {} outside {}",
             self.points, self.near, self.outside
         )?;
-        let (first, second) = (self.first / 1000, self.second / 1000);
-        let (third, fourth) = (self.third / 1000, self.fourth / 1000);
-        write!(f, " largest {first} {second} {third} {fourth}")?;
+        write!(f, " largest")?;
+        for largest in self.largest.iter() {
+            write!(f, " {}", largest / 1000)?;
+        }
         write!(f, " refused {} wrong {}", self.refused, self.wrong)
     }
 }

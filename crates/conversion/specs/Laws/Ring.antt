@@ -1,5 +1,5 @@
 -- Conversion of a whole ring: by what the checks said, and what its loops keep. Assumes nothing.
-use Rattle.std.specs.Prelude.{Bool, true, false, not, ◌≡◌, ℕ, suc, ◌+◌, ◌*◌, ◌<◌, ◌≤◌, ltb, ℤ, pos, length, get_or, set}
+use Rattle.std.specs.Prelude.{Ok, Err, not, ◌≡◌, ℕ, suc, ◌+◌, ◌*◌, ◌<◌, ◌≤◌, ltb, ℤ, pos, length, get_or, set}
 use Rattle.std.proofs.Math.Path.{refl, ap, ap₂}
 use Rattle.std.proofs.Common.{sym, ◌∙◌, arith, add-one, lt-ltb, le-ltb, take-append-drop, length-set, take-suc, drop-cons, take-suc-set, take_all, length-take-le}
 use mathlib.Core.List.{List, [], ◌∷◌, ◌++◌, append_assoc}
@@ -10,6 +10,9 @@ use Rattle.rules.specs.Systems.{System, system, same_ellipsoid}
 use Rattle.rules.specs.Rings.{Corner, origin}
 use Rattle.rules.specs.RingAnswers.{ring_checks}
 use Rattle.rules.specs.Conversion.{converted, conversion_by, verdict, held}
+use Rattle.terms.specs.Papers.{refusal_paper}
+use Rattle.terms.specs.declared.refusals.Refusal.{Refusal}
+use Rattle.ring_checks.proofs.Laws.Steps.{refused_bind, not_answered}
 use Rattle.conversion.specs.Codes.{code_checks}
 use Rattle.conversion.specs.Plane.{worked_plane, carried}
 use Rattle.conversion.specs.Laws.Plane.{codes_passed}
@@ -76,11 +79,19 @@ module _ (taken : ℤ → ℤ → Answer Corner) where
       ∙ converted_append (take m r) (get_or r m origin ∷ drop (suc m) r)
       ∙ ap₂ (λ x y. x >>= λ l. (y >>= λ p. converted taken (drop (suc m) r) >>= λ k. answered (p.x ∷ p.y ∷ k)) >>= λ k. answered (l ++ k)) e f
 
-pub outcome_refused : (b : Bool) (n : ℕ) (numbers : List ℤ) → b ≡ true → outcome b n numbers ≡ refused n
-outcome_refused b n numbers e = ap (λ x. outcome x n numbers) e
+  pub one_stopped : (r : List Corner) (m : ℕ) (done : List ℤ) (q : Refusal) → m < length r → converted taken (take m r) ≡ answered done
+      → refusal_paper q ≡ taken (get_or r m origin).x (get_or r m origin).y → refusal_paper q ≡ converted taken r
+  unfolding converted
+  one_stopped r m done q h e f =
+      refused_bind q (λ k. answered (done ++ k)) (refused_bind q (λ p. converted taken (drop (suc m) r) >>= λ k. answered (p.x ∷ p.y ∷ k)) f)
+      ∙ sym (ap (λ x. x >>= λ l. (taken (get_or r m origin).x (get_or r m origin).y >>= λ p. converted taken (drop (suc m) r) >>= λ k. answered (p.x ∷ p.y ∷ k)) >>= λ k. answered (l ++ k)) e)
+      ∙ sym (ap (converted taken) (sym (take-append-drop m r) ∙ ap (λ l. take m r ++ l) (drop-cons r m origin h)) ∙ converted_append (take m r) (get_or r m origin ∷ drop (suc m) r))
 
-pub outcome_answered : (b : Bool) (n : ℕ) (numbers : List ℤ) → b ≡ false → outcome b n numbers ≡ answered numbers
-outcome_answered b n numbers e = ap (λ x. outcome x n numbers) e
+pub outcome_refused : (count : ℕ) (r : Refusal) → outcome count (Err r) ≡ refusal_paper r
+outcome_refused count r = refl
+
+pub outcome_answered : (count : ℕ) (numbers : List ℤ) → outcome count (Ok numbers) ≡ answered (take count numbers)
+outcome_answered count numbers = refl
 
 -- the first i corners of a ring r are taken, and their numbers stand at the front of an array of 2,048
 pub record Converting (taken : ℤ → ℤ → Answer Corner) (r : List Corner) (numbers : List ℤ) (i : ℕ) : Type 0 where
@@ -114,6 +125,11 @@ module _ (taken : ℤ → ℤ → Answer Corner) (r : List Corner) where
         in_ring = h;
         so_far = rw d (one_more taken r i (take (2 * i) numbers) (record { x = X; y = Y }) h c.so_far e ∙ ap answered (sym (two_more numbers (2 * i) X Y (omega arith))));
       }
+
+  -- a corner that is refused ends the ring
+  pub convert_stopped : (numbers : List ℤ) (i : ℕ) (q : Refusal) → Converting taken r numbers i → i < length r
+      → refusal_paper q ≡ taken (get_or r i origin).x (get_or r i origin).y → refusal_paper q ≡ converted taken r
+  convert_stopped numbers i q c h e = one_stopped taken r i (take (2 * i) numbers) q h c.so_far e
 
   pub convert_refused : (numbers : List ℤ) (i n : ℕ) → Converting taken r numbers i → i < length r
       → taken (get_or r i origin).x (get_or r i origin).y ≡ refused n → converted taken r ≡ refused n
@@ -193,6 +209,14 @@ module _ (source target : ℕ) (numbers output : List ℤ) where
 -- ---- both promises of a call at once: what it answers, and what the output holds
 pub on_refusal : {a : Answer (List ℤ)} (n : ℕ) (out : List ℤ) → a ≡ refused n → (refused n ≡ verdict a) × (out ≡ held a out)
 on_refusal n out e = (sym (ap verdict e), sym (ap (λ x. held x out) e))
+
+pub on_stop : {a : Answer (List ℤ)} (q : Refusal) (out : List ℤ) → refusal_paper q ≡ a → (refusal_paper q ≡ verdict a) × (out ≡ held a out)
+on_stop {a} q out e = (refused_bind q _ e, go a e)
+  where
+    go : (a : Answer (List ℤ)) → refusal_paper q ≡ a → out ≡ held a out
+    go (answered l) e = absurd (not_answered q l e)
+    go (refused n) e = refl
+    go (crossed_at pair) e = refl
 
 pub on_success : {a : Answer (List ℤ)} (l out after : List ℤ) → a ≡ answered l → after ≡ l ++ drop (length l) out → (answered passed ≡ verdict a) × (after ≡ held a out)
 on_success l out after e f = (sym (ap verdict e), f ∙ sym (ap (λ x. held x out) e))

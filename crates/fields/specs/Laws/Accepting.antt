@@ -6,12 +6,16 @@ use mathlib.Core.List.{List, [], ◌∷◌}
 use Prim.Native.Nat.{ℕ, zero, suc, ◌+◌, ◌*◌, ◌<◌, ◌≤◌}
 use native.Mathlib.Omega.{arith}
 use Rattle.std.proofs.Math.Decide.{dec_lt}
-use Rattle.rules.specs.Refusals.{Answer, answered, refused, CrossedPair, crossed_at, Passed, passed, ◌>>=◌, ◌>>◌}
+use Rattle.rules.specs.Refusals.{Answer, answered, refused, CrossedPair, crossed_at, passed, ◌>>◌}
 use Rattle.rules.specs.Fields.{Field}
 use Rattle.rules.specs.FieldAnswers.{with_ring, summed, cut, inner_accepted}
 use Rattle.ring_corners.specs.Corners.{pairs, Accepted}
+use Rattle.ring_checks.proofs.Laws.Steps.{refused_then, refused_passed}
+use Rattle.terms.specs.declared.refusals.Refusal.{Refusal}
+use Rattle.terms.specs.Papers.{refusal_paper}
 use Rattle.ring_boxes.specs.Boxes.{Boxed}
-use Rattle.fields.specs.Placed.{as_field, one_more, the_rest, Checked, OuterBoxed}
+use Rattle.ring_boxes.specs.declared.reach.Reach.{Reach}
+use Rattle.fields.specs.Placed.{as_field, one_more, the_rest, Checked, Outer, OuterBoxed}
 use Rattle.fields.specs.Laws.Cut.{summed_more, summed_most, cut_at, length_cut}
 use Rattle.fields.specs.Laws.Placed.{cut_first, more_field, rest_of, rest_next, one_passed}
 
@@ -32,7 +36,16 @@ get_d_take (r ∷ rings) (suc k) (suc i) h = get_d_take rings k i (omega arith)
 take_counts : (counts : List ℕ) (k : ℕ) → k ≤ length counts → length (take k counts) ≡ k
 take_counts counts k h = length-take-le k counts h
 
--- a refusal is the answer
+-- the numbers of ring k
+abbrev pub ring : List ℕ → List ℤ → ℕ → ℕ → List ℤ
+ring counts numbers at k = take (2 * get_or counts k 0) (drop at numbers)
+
+pub ring_is : (counts : List ℕ) (numbers : List ℤ) (k : ℕ) → k < length counts → get_or (cut counts numbers) k [] ≡ ring counts numbers (2 * summed (take k counts)) k
+ring_is counts numbers k h =
+    let e = length_cut counts numbers in
+    ap (λ (l : List (List ℤ)). get_or l 0 []) (sym (drop-cons (cut counts numbers) k [] (omega arith)) ∙ cut_at counts numbers k h)
+
+-- a refusal of the rings so far is the answer, by its number or its pair of edges
 stop_refused : (a : Answer Field) (rest : List (List ℤ)) (n : ℕ) → (a >> answered passed) ≡ refused n → rest_of rest a ≡ refused n
 stop_refused (answered g) rest n e = absurd (let z : ◌≡◌ {A = ℕ} 0 1 = cc e in omega arith)
 stop_refused (refused m) rest n e = e
@@ -43,17 +56,8 @@ stop_crossed (answered g) rest pair e = absurd (let z : ◌≡◌ {A = ℕ} 0 1 
 stop_crossed (refused m) rest pair e = e
 stop_crossed (crossed_at other) rest pair e = e
 
--- the numbers of ring k
-abbrev pub ring : List ℕ → List ℤ → ℕ → ℕ → List ℤ
-ring counts numbers at k = take (2 * get_or counts k 0) (drop at numbers)
-
-pub ring_is : (counts : List ℕ) (numbers : List ℤ) (k : ℕ) → k < length counts → get_or (cut counts numbers) k [] ≡ ring counts numbers (2 * summed (take k counts)) k
-ring_is counts numbers k h =
-    let e = length_cut counts numbers in
-    ap (λ (l : List (List ℤ)). get_or l 0 []) (sym (drop-cons (cut counts numbers) k [] (omega arith)) ∙ cut_at counts numbers k h)
-
 module _ (counts : List ℕ) (numbers : List ℤ) where
-  pub accepting_start : 0 < length counts → Accepted (ring counts numbers 0 0) → Accepting counts numbers (2 * get_or counts 0 0) 1
+  accepting_start : 0 < length counts → Accepted (ring counts numbers 0 0) → Accepting counts numbers (2 * get_or counts 0 0) 1
   unfolding summed
   accepting_start h a = record {
     start = let e = summed_more counts 0 h in omega arith;
@@ -66,6 +70,11 @@ module _ (counts : List ℕ) (numbers : List ℤ) where
       first : (i : ℕ) → i < 1 → Accepted (get_or (cut counts numbers) i [])
       first zero j = subst Accepted (sym (ring_is counts numbers 0 h)) a
       first (suc i) j = absurd (omega arith)
+
+  -- by the outer ring as it was handed on
+  pub accepting_first : 0 < length counts → (first : List ℤ) → Outer counts numbers first → Accepted first → Accepting counts numbers (2 * get_or counts 0 0) 1
+  unfolding summed
+  accepting_first h first e a = accepting_start h (subst Accepted (e ∙ ring_is counts numbers 0 h) a)
 
   module _ {at k : ℕ} (g : Accepting counts numbers at k) where
     pub accepting_end : length counts ≤ k → answered passed ≡ the_rest (take 1 (cut counts numbers)) (drop 1 (cut counts numbers))
@@ -93,9 +102,11 @@ module _ (counts : List ℕ) (numbers : List ℤ) where
             good = λ i h. subst Accepted (sym (ap (λ (l : List (List ℤ)). get_or l i []) first_rings ∙ get_d_take (cut counts numbers) k i (omega arith))) (g.good i (omega arith));
           }
 
-      pub first_boxed : (lows highs : List ℤ) → OuterBoxed counts numbers lows highs → OuterBoxed (take k counts) (take at numbers) lows highs
-      first_boxed lows highs b =
-          subst (λ (l : List ℤ). Boxed (pairs l) (pairs lows) (pairs highs)) (sym (ap (λ (l : List (List ℤ)). get_or l 0 []) first_rings ∙ get_d_take (cut counts numbers) k 0 g.some)) b
+      pub first_outer : (first : List ℤ) → Outer counts numbers first → Outer (take k counts) (take at numbers) first
+      first_outer first e = e ∙ sym (ap (λ (l : List (List ℤ)). get_or l 0 []) first_rings ∙ get_d_take (cut counts numbers) k 0 g.some)
+
+      pub first_boxed : (boxes : List Reach) → OuterBoxed counts numbers boxes → OuterBoxed (take k counts) (take at numbers) boxes
+      first_boxed boxes b = subst (λ (l : List ℤ). Boxed (pairs l) boxes) (sym (ap (λ (l : List (List ℤ)). get_or l 0 []) first_rings ∙ get_d_take (cut counts numbers) k 0 g.some)) b
 
       module _ (h : k < length counts) where
         next : drop k (cut counts numbers) ≡ (ring counts numbers at k ∷ drop (suc k) (cut counts numbers))
@@ -110,8 +121,12 @@ module _ (counts : List ℕ) (numbers : List ℤ) where
             g.answer ∙ ap (the_rest (take k (cut counts numbers))) next ∙ rest_next (take k (cut counts numbers)) (ring counts numbers at k) (drop (suc k) (cut counts numbers))
             ∙ ap (λ (l : List (List ℤ)). rest_of (drop (suc k) (cut counts numbers)) (one_more l (ring counts numbers at k))) (sym first_rings)
 
-        pub accepting_refused : (n : ℕ) → refused n ≡ (said >> answered passed) → refused n ≡ the_rest (take 1 (cut counts numbers)) (drop 1 (cut counts numbers))
-        accepting_refused n e = sym (by_next ∙ stop_refused said (drop (suc k) (cut counts numbers)) n (sym e))
+        pub accepting_refused : (r : Refusal) → refusal_paper r ≡ (said >> answered passed) → refusal_paper r ≡ the_rest (take 1 (cut counts numbers)) (drop 1 (cut counts numbers))
+        accepting_refused r e = refused_then r _ (refused_passed said r (λ g. inner_accepted g (drop (suc k) (cut counts numbers))) e) ∙ sym by_next
+
+        -- by its number or its pair of edges
+        pub accepting_number : (n : ℕ) → refused n ≡ (said >> answered passed) → refused n ≡ the_rest (take 1 (cut counts numbers)) (drop 1 (cut counts numbers))
+        accepting_number n e = sym (by_next ∙ stop_refused said (drop (suc k) (cut counts numbers)) n (sym e))
 
         pub accepting_crossed : (pair : CrossedPair) → crossed_at pair ≡ (said >> answered passed) → crossed_at pair ≡ the_rest (take 1 (cut counts numbers)) (drop 1 (cut counts numbers))
         accepting_crossed pair e = sym (by_next ∙ stop_crossed said (drop (suc k) (cut counts numbers)) pair (sym e))

@@ -10,11 +10,15 @@ use Rattle.rules.specs.Refusals.{Answer, answered, refused, CrossedPair, crossed
 use Rattle.rules.specs.Rings.{Corner, EdgePair}
 use Rattle.rules.specs.Crossing.{crossed}
 use Rattle.rules.specs.RingAnswers.{ring_checks, looked_through, not_crossed, crossing_answer}
-use Rattle.rules.specs.Fields.{Field}
 use Rattle.rules.specs.Placing.{misplaced}
 use Rattle.rules.specs.FieldAnswers.{with_ring, inner_checks, placed}
 use Rattle.ring_corners.specs.Corners.{pairs, Accepted}
 use Rattle.ring_checks.proofs.Laws.Accept.{judgement}
+use Rattle.ring_checks.proofs.Laws.Steps.{refused_bind, refused_then}
+use Rattle.terms.specs.declared.refusals.Refusal.{Refusal}
+use Rattle.terms.specs.Papers.{refusal_paper}
+use Rattle.fields.specs.OfRing.{ring_refusal}
+use Rattle.fields.specs.Laws.OfRing.{ring_refusal_is}
 use Rattle.fields.specs.Placed.{as_field, one_more, passed_one}
 use Rattle.fields.specs.Laws.Inner.{seventeenth, too_long, not_long}
 use Rattle.fields.specs.Laws.Placed.{inner_rings_of}
@@ -36,6 +40,11 @@ module _ (rings : List (List ℤ)) (numbers : List ℤ) where
   abbrev then : Answer (List Corner) → Answer Passed
   then a = (a >>= placed (as_field rings)) >> answered passed
 
+  -- 16 and 6 by its place and its length
+  pub place_refused : (r : Refusal) (before : ℕ) → before ≡ length rings - 1 → refusal_paper r ≡ inner_checks before numbers → refusal_paper r ≡ passed_one rings numbers
+  unfolding passed_one one_more
+  place_refused r before same e = refused_then r _ (refused_bind r (placed (as_field rings)) (e ∙ ap (λ (n : ℕ). inner_checks n numbers) same))
+
   pub seventeenth_ring : 16 ≤ length rings - 1 → refused too_many_rings ≡ passed_one rings numbers
   unfolding passed_one one_more
   seventeenth_ring h = sym (ap then (seventeenth (length rings - 1) numbers h))
@@ -50,9 +59,43 @@ module _ (rings : List (List ℤ)) (numbers : List ℤ) where
       unfolding passed_one one_more
       as_ring = ap then (not_long (length rings - 1) numbers few short)
 
-      pub join_refused : (n : ℕ) → refused n ≡ crossing_answer numbers → refused n ≡ passed_one rings numbers
+      -- 6, 7 and 8, and 9 of this ring, whose number is how many there are before it
+      pub join_refused : 1 ≤ length rings → (r : Refusal) (s : Refusal) → refusal_paper r ≡ crossing_answer numbers → s ≡ ring_refusal (length rings) r → refusal_paper s ≡ passed_one rings numbers
+      unfolding crossing_answer placed
+      join_refused h r s e f =
+          go (ring_checks numbers) (judged (ring_checks numbers) refl) e ∙ sym as_ring
+        where
+          number : (n : ℕ) → 1 ≤ n → n ≡ suc (n - 1)
+          number n h = omega arith
+
+          -- this ring's number
+          k : ℕ
+          k = suc (length (as_field rings).inner_rings)
+
+          said : {A : Type 0} {a : Answer A} → refusal_paper r ≡ a → refusal_paper s ≡ in_ring k a
+          said e =
+              ap refusal_paper (f ∙ ap (λ (n : ℕ). ring_refusal n r) (number (length rings) h ∙ ap suc (sym (inner_rings_of rings)))) ∙ ring_refusal_is k r ∙ ap (in_ring k) e
+
+          -- the checks of the numbers make no pair
+          Judged : Answer (List Corner) → Type 0
+          Judged (answered r) = Unit
+          Judged (refused n) = Unit
+          Judged (crossed_at pair) = ⊥
+
+          judged : (a : Answer (List Corner)) → ring_checks numbers ≡ a → Judged a
+          judged (answered r) e = tt
+          judged (refused n) e = tt
+          judged (crossed_at pair) e = ⊎_elim (λ j. let z : ◌≡◌ {A = ℕ} 0 1 = cc (e, j.0) in omega arith) (λ j. let z : ◌≡◌ {A = ℕ} 0 1 = cc (e, j.1) in omega arith) (judgement numbers)
+
+          go : (a : Answer (List Corner)) → Judged a → refusal_paper r ≡ (a >>= not_crossed) → refusal_paper s ≡ then a
+          go (answered c) j e = refused_then s _ (refused_then s _ (said e))
+          go (refused n) j e = refused_bind s (λ _. refused 0) (said e)
+          go (crossed_at other) j e = absurd j
+
+      -- a refusal by its number: the crossing test makes none of its own
+      pub join_number : (n : ℕ) → refused n ≡ crossing_answer numbers → refused n ≡ passed_one rings numbers
       unfolding crossing_answer
-      join_refused n e = go (ring_checks numbers) e ∙ sym as_ring
+      join_number n e = go (ring_checks numbers) e ∙ sym as_ring
         where
           go : (a : Answer (List Corner)) → refused n ≡ (a >>= not_crossed) → refused n ≡ then a
           go (answered r) e = absurd (never_refused r n e)

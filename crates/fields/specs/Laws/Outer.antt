@@ -1,9 +1,9 @@
 -- A field's acceptance, by what the crossing test says of its outer ring. Assumes nothing.
 use Rattle.std.proofs.Math.Path.{◌≡◌, refl, sym, ap}
 use Rattle.std.proofs.Common.{◌∙◌, arith}
-use Rattle.std.specs.Prelude.{Bool, true, false, ℕ, ◌*◌, ◌<◌, ℤ, take, drop, get_or}
+use Rattle.std.specs.Prelude.{true, false, ℕ, ◌*◌, ◌<◌, ℤ, take, drop, get_or}
 use Rattle.std.proofs.Math.Logic.{⊎_elim}
-use mathlib.Core.List.{List, [], ◌∷◌}
+use mathlib.Core.List.{List, ◌∷◌}
 use Rattle.std.proofs.Math.ListN.{length}
 use Rattle.rules.specs.Refusals.{Answer, answered, refused, CrossedPair, crossed_at, Passed, passed, ◌>>=◌, ◌>>◌, corner_count}
 use Rattle.rules.specs.Rings.{Corner}
@@ -13,26 +13,18 @@ use Rattle.ring_corners.specs.Corners.{pairs, Accepted}
 use Rattle.ring_checks.proofs.Laws.Accept.{judgement}
 use Rattle.fields.specs.Placed.{as_field, the_rest}
 use Rattle.fields.specs.Laws.Cut.{cut_at}
+use Rattle.fields.specs.Laws.Calls.{accept_even}
 use Rattle.fields.specs.Laws.Joining.{never_refused}
+use Rattle.ring_checks.proofs.Laws.Steps.{refused_bind, refused_then}
+use Rattle.terms.specs.declared.refusals.Refusal.{Refusal}
+use Rattle.terms.specs.Papers.{refusal_paper}
 
 module _ (counts : List ℕ) (numbers : List ℤ) where
   pub accept_uneven : uneven counts numbers ≡ true → refused corner_count ≡ accept_answer counts numbers
   unfolding accept_answer field_accepted
   accept_uneven e = rw e refl
 
-  accept_even : uneven counts numbers ≡ false → accept_answer counts numbers ≡ (rings_accepted (cut counts numbers) >> answered passed)
-  unfolding accept_answer field_accepted
-  accept_even e = rw e refl
-
   module _ (fits : uneven counts numbers ≡ false) where
-    pub accept_none : length counts ≡ 0 → refused corner_count ≡ accept_answer counts numbers
-    unfolding rings_accepted cut
-    accept_none h = sym (accept_even fits ∙ go counts h)
-      where
-        go : (counts : List ℕ) → length counts ≡ 0 → (rings_accepted (cut counts numbers) >> answered passed) ≡ refused corner_count
-        go [] h = refl
-        go (n ∷ counts) h = absurd (omega arith)
-
     module _ (h : 0 < length counts) where
       abbrev first : List ℤ
       first = take (2 * get_or counts 0 0) numbers
@@ -49,11 +41,21 @@ module _ (counts : List ℕ) (numbers : List ℤ) where
 
       by_first : accept_answer counts numbers ≡ then (ring_checks first)
       unfolding rings_accepted outer_accepted
-      by_first = accept_even fits ∙ ap (λ (l : List (List ℤ)). rings_accepted l >> answered passed) cut_one
+      by_first = sym (accept_even counts numbers fits) ∙ ap (λ (l : List (List ℤ)). rings_accepted l >> answered passed) cut_one
 
-      pub outer_refused : (n : ℕ) → refused n ≡ crossing_answer first → refused n ≡ accept_answer counts numbers
+      pub outer_refused : (r : Refusal) → refusal_paper r ≡ crossing_answer first → refusal_paper r ≡ accept_answer counts numbers
       unfolding crossing_answer
-      outer_refused n e = go (ring_checks first) e ∙ sym by_first
+      outer_refused r e = go (ring_checks first) e ∙ sym by_first
+        where
+          go : (a : Answer (List Corner)) → refusal_paper r ≡ (a >>= not_crossed) → refusal_paper r ≡ then a
+          go (answered c) e = refused_then r _ (refused_bind r _ (refused_then r _ e))
+          go (refused n) e = refused_bind r (λ _. refused n) e
+          go (crossed_at pair) e = refused_bind r (λ _. refused 0) e
+
+      -- a refusal by its number or its pair of edges
+      pub outer_number : (n : ℕ) → refused n ≡ crossing_answer first → refused n ≡ accept_answer counts numbers
+      unfolding crossing_answer
+      outer_number n e = go (ring_checks first) e ∙ sym by_first
         where
           go : (a : Answer (List Corner)) → refused n ≡ (a >>= not_crossed) → refused n ≡ then a
           go (answered r) e = absurd (never_refused r n e)

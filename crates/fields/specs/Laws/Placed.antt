@@ -1,14 +1,12 @@
 -- A field's rings, one more at a time: the rings before it are a field, and what is left is asked of it. Assumes nothing.
-use Rattle.std.specs.Prelude.{◌≡◌, refl, Bool, true, false, ◌⊎◌, List, [], ◌∷◌, ◌++◌, map, ℕ, zero, suc, ◌+◌, ◌*◌, ◌-◌, ◌<◌, ◌≤◌, ℤ, length, take, drop, get_or}
-use Rattle.std.proofs.Common.{sym, ◌∙◌, ap, ap₂, subst, inl, inr, ⊎_elim, add-one, arith, take-take}
+use Rattle.std.specs.Prelude.{◌≡◌, refl, ◌⊎◌, List, [], ◌∷◌, ◌++◌, map, ℕ, zero, suc, ◌+◌, ◌*◌, ◌-◌, ◌<◌, ◌≤◌, ℤ, length, take, drop, get_or}
+use Rattle.std.proofs.Common.{sym, ◌∙◌, ap, ap₂, inl, inr, ⊎_elim, arith, take-take}
 use Rattle.std.proofs.Math.Decide.{dec_lt}
 use Rattle.std.proofs.Math.Seq.{take-nil}
-use Rattle.rules.specs.Refusals.{Answer, answered, refused, CrossedPair, crossed_at, Passed, passed, ◌>>=◌, ◌>>◌, ◌if◌, in_ring, badly_placed}
+use Rattle.rules.specs.Refusals.{Answer, answered, refused, crossed_at, Passed, passed, ◌>>=◌, ◌>>◌}
 use Rattle.rules.specs.Rings.{Corner}
-use Rattle.rules.specs.RingAnswers.{ring_checks, not_crossed}
 use Rattle.rules.specs.Fields.{Field}
-use Rattle.rules.specs.Placing.{misplaced}
-use Rattle.rules.specs.FieldAnswers.{alone, with_ring, inner_checks, placed, summed, cut, outer_accepted, inner_accepted, rings_accepted, inner_read, rings_read}
+use Rattle.rules.specs.FieldAnswers.{with_ring, inner_checks, placed, summed, cut, inner_accepted}
 use Rattle.rules.proofs.Laws.AcceptedFields.{placed_is}
 use Rattle.ring_corners.specs.Corners.{pairs, Accepted}
 use Rattle.ring_checks.proofs.Laws.Accept.{judgement}
@@ -87,6 +85,9 @@ inner_judged before numbers =
             | no h ↦ ⊎_elim (λ j. inl (not_long before numbers g (omega arith) ∙ j.0, j.1)) (λ j. inr (j.0, not_long before numbers g (omega arith) ∙ j.1, j.2)) (judgement numbers)
           ]
     ]
+
+pub inner_accepts : (before : ℕ) (numbers : List ℤ) → answered passed ≡ (inner_checks before numbers >> answered passed) → (inner_checks before numbers ≡ answered (pairs numbers)) × Accepted numbers
+inner_accepts before numbers e = ⊎_elim (λ j. j) (λ j. absurd (clash (sym (e ∙ ap (λ (a : Answer (List Corner)). a >> answered passed) j.1)))) (inner_judged before numbers)
 
 ring_passed : (before : ℕ) (numbers : List ℤ) (r : List Corner) → inner_checks before numbers ≡ answered r → (r ≡ pairs numbers) × Accepted numbers
 ring_passed before numbers r e = ⊎_elim (λ j. (cc (j.0, e), j.1)) (λ j. absurd (clash (sym j.1 ∙ e))) (inner_judged before numbers)

@@ -1,8 +1,8 @@
 -- The walk over a field's rings gives the rules' answer. Assumes nothing.
 use Rattle.std.specs.Prelude.{◌≡◌, refl, ℤ, length, take, drop, get_or}
-use Rattle.std.proofs.Math.Path.{sym, ap}
+use Rattle.std.proofs.Math.Path.{sym, ap, subst}
 use Rattle.std.proofs.Common.{◌∙◌, add-one, length-append, drop_of_length-le, le-leb}
-use mathlib.Core.List.{List, [], ◌∷◌, ◌++◌}
+use mathlib.Core.List.{List, [], ◌∷◌}
 use Prim.Native.Nat.{ℕ, suc, ◌+◌, ◌*◌, ◌-◌, ◌<◌, ◌≤◌}
 use native.Mathlib.Omega.{arith}
 use Rattle.rules.specs.Refusals.{Answer, answered, refused, CrossedPair, crossed_at, ◌>>=◌, too_many_rings}
@@ -13,11 +13,15 @@ use Rattle.rules.specs.FieldAnswers.{alone, with_ring, summed, cut, inner_checks
 use Rattle.rules.specs.Laws.Fields.{beside}
 use Rattle.rules.proofs.Laws.Fields.{alone_nozzle, more_nozzle}
 use Rattle.rings.specs.Answers.{position_answer}
+use Rattle.terms.specs.declared.refusals.Refusal.{Refusal}
+use Rattle.terms.specs.Papers.{refusal_paper}
+use Rattle.terms.proofs.Refused.{refused_first}
+use Rattle.ring_checks.proofs.Laws.Steps.{refused_bind}
 use Rattle.fields.specs.Laws.Cut.{summed_more, summed_most, cut_at, length_cut}
 use Rattle.fields.specs.Walks.{rings_position, inner_position, both_answers, walked}
 
 -- a refusal stays
-pub walked_refused : (n before : ℕ) (rest : List (List ℤ)) (p : Corner) → walked (refused n) before rest p ≡ refused n
+walked_refused : (n before : ℕ) (rest : List (List ℤ)) (p : Corner) → walked (refused n) before rest p ≡ refused n
 unfolding walked both_answers
 walked_refused n before [] p = refl
 walked_refused n before (numbers ∷ rest) p = walked_refused n (suc before) rest p
@@ -63,6 +67,13 @@ walk_rings numbers rest p = go (ring_checks numbers)
     go (refused n) = sym (walked_refused n 0 rest p)
     go (crossed_at pair) = sym (walked_crossed pair 0 rest p)
 
+-- a refusal of the rings so far is the answer
+walked_refusal : (r : Refusal) (before : ℕ) (rest : List (List ℤ)) (p : Corner) → walked (refusal_paper r) before rest p ≡ refusal_paper r
+unfolding walked both_answers
+walked_refusal r before [] p = refl
+walked_refusal r before (numbers ∷ rest) p =
+    ap (λ (a : Answer Nozzle). walked a (suc before) rest p) (refused_first r _) ∙ walked_refusal r (suc before) rest p
+
 -- the seventeenth inner ring ends the walk
 pub too_many : (a : Answer Nozzle) (before : ℕ) (numbers : List ℤ) (rest : List (List ℤ)) (p : Corner) → 16 ≤ before
     → walked a before (numbers ∷ rest) p ≡ both_answers a (refused too_many_rings)
@@ -104,6 +115,9 @@ module _ (counts : List ℕ) (numbers : List ℤ) (p : Corner) where
         past : {m n : ℕ} → m ≡ n → n ≤ k → m ≤ k
         past e h = omega arith
 
+    pub going_refused : (r : Refusal) → refusal_paper r ≡ a → refusal_paper r ≡ rings_position (cut counts numbers) p
+    going_refused r e = sym (g.answer ∙ ap (λ (a : Answer Nozzle). walked a (k - 1) (drop k (cut counts numbers)) p) (sym e) ∙ walked_refusal r (k - 1) (drop k (cut counts numbers)) p)
+
     module _ (h : k < length counts) where
       next : drop k (cut counts numbers) ≡ (ring_at counts numbers at k ∷ drop (suc k) (cut counts numbers))
       next = cut_at counts numbers k h ∙ ap (λ (n : ℕ). take (2 * get_or counts k 0) (drop n numbers) ∷ drop (suc k) (cut counts numbers)) (sym g.start)
@@ -131,3 +145,23 @@ module _ (counts : List ℕ) (numbers : List ℤ) (p : Corner) where
       -- ring k's numbers are all there
       pub inside : 2 * summed counts ≡ length numbers → at + 2 * get_or counts k 0 ≤ length numbers
       inside e = let s = g.start in let m = summed_more counts k h in let t = summed_most counts (suc k) in omega arith
+
+-- ---- by what the calls answered
+module _ (counts : List ℕ) (numbers : List ℤ) (p : Corner) where
+  pub first_refused : 0 < length counts → (r : Refusal) → refusal_paper r ≡ position_answer (ring_at counts numbers 0 0) p → refusal_paper r ≡ rings_position (cut counts numbers) p
+  first_refused h r e = going_refused counts numbers p (going_start counts numbers p h) r e
+
+  pub first_stands : 0 < length counts → {x : Nozzle} → answered x ≡ position_answer (ring_at counts numbers 0 0) p → Going counts numbers p (2 * get_or counts 0 0) (answered x) 1
+  first_stands h e = subst (λ (a : Answer Nozzle). Going counts numbers p (2 * get_or counts 0 0) a 1) (sym e) (going_start counts numbers p h)
+
+  module _ {at k : ℕ} {x : Nozzle} (g : Going counts numbers p at (answered x) k) (h : k < length counts) where
+    pub next_refused : (r : Refusal) → refusal_paper r ≡ inner_position (k - 1) (ring_at counts numbers at k) p → refusal_paper r ≡ rings_position (cut counts numbers) p
+    unfolding both_answers
+    next_refused r e = going_refused counts numbers p (going_on counts numbers p g h) r (refused_bind r (λ y. answered (beside x y)) e)
+
+    pub next_stands : {y z : Nozzle} → answered y ≡ inner_position (k - 1) (ring_at counts numbers at k) p → z ≡ beside x y → Going counts numbers p (at + 2 * get_or counts k 0) (answered z) (k + 1)
+    unfolding both_answers
+    next_stands {y} {z} e f =
+        subst (λ (a : Answer Nozzle). Going counts numbers p (at + 2 * get_or counts k 0) a (k + 1))
+        (ap (λ (b : Answer Nozzle). b >>= λ y. answered (beside x y)) (sym e) ∙ ap answered (sym f))
+        (going_on counts numbers p g h)

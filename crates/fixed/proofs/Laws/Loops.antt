@@ -1,6 +1,6 @@
 -- alt60 and ser60 meet their relations over a table that falls, and what the loops of src/, which go from a table's end to its start, need of it. Assumes nothing.
-use Rattle.std.specs.Prelude.{Bool, true, false, cond, ◌≡◌, refl, List, [], ◌∷◌, ℕ, zero, suc, ◌+◌, ◌*◌, ◌-◌, ◌<◌, ◌≤◌, T, leb, length, drop, get_or}
-use Rattle.std.proofs.Common.{sym, ◌∙◌, ap, subst, arith, leb→le, drop-cons}
+use Rattle.std.specs.Prelude.{Bool, true, false, cond, ◌≡◌, refl, List, [], ◌∷◌, ◌++◌, ℕ, zero, suc, ◌+◌, ◌*◌, ◌-◌, ◌<◌, ◌≤◌, T, leb, length, drop, get_or}
+use Rattle.std.proofs.Common.{sym, ◌∙◌, ap, subst, arith, leb→le, append-nil, append_assoc, drop-cons}
 use Rattle.fixed.specs.Worked.{S60, mul60, alt60, ser60}
 use Rattle.fixed.specs.Relations.{Mul60, Alternating60, Summed60, none, step, falls}
 use Rattle.fixed.proofs.Laws.Words.{prod, mul60_is}
@@ -53,7 +53,62 @@ mul_small {a} {b} {m} h k = go (prod a a b S60 (omega arith) k)
     go : a * b ≤ a * S60 → m ≤ a
     go l = omega (arith, h.lo)
 
--- ---- the loops: what `falls` tests, at an index
+-- ---- the loops, which take the numbers from the table's end: s is f of those that are taken, and the others are left
+pub record Taken (f : List ℕ → ℕ) (tab rest : List ℕ) (s : ℕ) : Type 0 where
+  pub done : List ℕ
+  pub splits : rest ++ done ≡ tab
+  pub is : s ≡ f done
+
+pub taken_none : {f : List ℕ → ℕ} {tab rest : List ℕ} {s : ℕ} → rest ≡ tab → s ≡ f [] → Taken f tab rest s
+taken_none {rest} h e = record { done = []; splits = append-nil rest ∙ h; is = e }
+
+pub taken_all : {f : List ℕ → ℕ} {tab rest : List ℕ} {s : ℕ} → Taken f tab rest s → length rest ≡ 0 → s ≡ f tab
+taken_all {f} {rest = []} t e = t.is ∙ ap f t.splits
+taken_all {rest = c ∷ rest} t e = absurd (omega arith)
+
+-- what `falls` tests, of a number and those behind it
+falls_at : (m : ℕ) (xs : List ℕ) (c : ℕ) (ys : List ℕ) → T (falls m (xs ++ c ∷ ys)) → (c ≤ m) × T (falls c ys)
+falls_at m [] c ys t = let h = both (leb c m) (falls c ys) t in (leb→le c m h.0, h.1)
+falls_at m (x ∷ xs) c ys t =
+    let h = both (leb x m) (falls x (xs ++ c ∷ ys)) t in
+    let l = leb→le x m h.0 in
+    let r = falls_at x xs c ys h.1 in
+    (omega arith, r.1)
+
+-- the next number, c, comes before those that are taken
+module _ {f : List ℕ → ℕ} {tab rest : List ℕ} {s : ℕ} (t : Taken f tab rest s) (left : List ℕ) (c : ℕ) (e : rest ≡ left ++ c ∷ []) where
+  before : left ++ c ∷ t.done ≡ tab
+  before = sym (append_assoc left (c ∷ []) t.done) ∙ ap (λ l. l ++ t.done) (sym e) ∙ t.splits
+
+  pub taken_next : {r : ℕ} → r ≡ f (c ∷ t.done) → Taken f tab left r
+  taken_next is = record { done = c ∷ t.done; splits = before; is = is }
+
+  pub taken_falls : (m : ℕ) → T (falls m tab) → (c ≤ m) × T (falls c t.done)
+  taken_falls m h = falls_at m left c t.done (subst (λ l. T (falls m l)) (sym before) h)
+
+-- how large s is beside the next number
+pub alt_taken : (q c : ℕ) (left : List ℕ) {s : ℕ} {tab rest : List ℕ} → Taken (alt60 q) tab rest s → rest ≡ left ++ c ∷ [] → T (falls S60 tab) → q ≤ S60 → (s ≤ c) × (c ≤ S60)
+alt_taken q c left t e h k =
+    let f = taken_falls t left c e S60 h in
+    let b = alt60_is q c t.done f.0 f.1 k in
+    (omega (arith, t.is, b.high), f.0)
+
+pub ser_taken : (q c : ℕ) (left : List ℕ) {s : ℕ} {tab rest : List ℕ} → Taken (ser60 q) tab rest s → rest ≡ left ++ c ∷ [] → T (falls S60 tab) → 2 * q ≤ S60 → (s ≤ 2 * c) × (c ≤ S60)
+ser_taken q c left t e h k =
+    let f = taken_falls t left c e S60 h in
+    let b = ser60_is q c t.done f.0 f.1 k in
+    (omega (arith, t.is, b.high), f.0)
+
+-- one turn of each loop
+pub alt_turn : (q c : ℕ) (left : List ℕ) {s m : ℕ} {tab rest : List ℕ} → Taken (alt60 q) tab rest s → rest ≡ left ++ c ∷ [] → m ≡ mul60 q s → Taken (alt60 q) tab left (c - m)
+unfolding alt60
+alt_turn q c left t e h = taken_next t left c e (ap (λ k. c - k) (h ∙ ap (mul60 q) t.is))
+
+pub ser_turn : (q c : ℕ) (left : List ℕ) {s m : ℕ} {tab rest : List ℕ} → Taken (ser60 q) tab rest s → rest ≡ left ++ c ∷ [] → m ≡ mul60 q s → Taken (ser60 q) tab left (c + m)
+unfolding ser60
+ser_turn q c left t e h = taken_next t left c e (ap (λ k. c + k) (h ∙ ap (mul60 q) t.is))
+
+-- ---- a table by its indices: what `falls` tests at one, and what lies from one on
 pub record Fall (m : ℕ) (cs : List ℕ) (i : ℕ) : Type 0 where
   pub top : get_or cs i 0 ≤ m
   pub next : get_or cs (suc i) 0 ≤ get_or cs i 0
@@ -81,11 +136,11 @@ drop_before cs (suc j) h k = subst (λ n. get_or cs n 0 ∷ drop (suc j) cs ≡ 
     sub : (j : ℕ) → j ≡ suc j - 1
     sub j = omega arith
 
--- one turn of each loop
-pub alt_turn : {s m : ℕ} (q : ℕ) (cs : List ℕ) (i : ℕ) → 0 < i → i ≤ length cs → s ≡ alt60 q (drop i cs) → m ≡ mul60 q s → get_or cs (i - 1) 0 - m ≡ alt60 q (drop (i - 1) cs)
+-- one turn from a table's end to its start, by the index of the number
+pub alt_before : {s m : ℕ} (q : ℕ) (cs : List ℕ) (i : ℕ) → 0 < i → i ≤ length cs → s ≡ alt60 q (drop i cs) → m ≡ mul60 q s → get_or cs (i - 1) 0 - m ≡ alt60 q (drop (i - 1) cs)
 unfolding alt60
-alt_turn {s} {m} q cs i h k a b = subst (λ d. get_or cs (i - 1) 0 - m ≡ alt60 q d) (drop_before cs i h k) (ap (λ t. get_or cs (i - 1) 0 - t) (b ∙ ap (mul60 q) a))
+alt_before {s} {m} q cs i h k a b = subst (λ d. get_or cs (i - 1) 0 - m ≡ alt60 q d) (drop_before cs i h k) (ap (λ t. get_or cs (i - 1) 0 - t) (b ∙ ap (mul60 q) a))
 
-pub ser_turn : {s m : ℕ} (q : ℕ) (cs : List ℕ) (i : ℕ) → 0 < i → i ≤ length cs → s ≡ ser60 q (drop i cs) → m ≡ mul60 q s → get_or cs (i - 1) 0 + m ≡ ser60 q (drop (i - 1) cs)
+pub ser_before : {s m : ℕ} (q : ℕ) (cs : List ℕ) (i : ℕ) → 0 < i → i ≤ length cs → s ≡ ser60 q (drop i cs) → m ≡ mul60 q s → get_or cs (i - 1) 0 + m ≡ ser60 q (drop (i - 1) cs)
 unfolding ser60
-ser_turn {s} {m} q cs i h k a b = subst (λ d. get_or cs (i - 1) 0 + m ≡ ser60 q d) (drop_before cs i h k) (ap (λ t. get_or cs (i - 1) 0 + t) (b ∙ ap (mul60 q) a))
+ser_before {s} {m} q cs i h k a b = subst (λ d. get_or cs (i - 1) 0 + m ≡ ser60 q d) (drop_before cs i h k) (ap (λ t. get_or cs (i - 1) 0 + t) (b ∙ ap (mul60 q) a))

@@ -1,6 +1,6 @@
 -- What is asked of a row of a table, six coefficients, for its worked polynomial to be near a number of the definition along a whole band: a test that computes, and
 -- what it shows. Assumes nothing.
-use Rattle.std.specs.Prelude.{◌≡◌, refl, Bool, true, false, List, [], ◌∷◌, ℕ, suc, ◌+◌, ◌*◌, ◌-◌, ◌/◌, ◌%◌, ◌^◌, ◌<◌, ◌≤◌, T, ℤ, pos, ◌+ℤ◌, ◌-ℤ◌, ◌*ℤ◌}
+use Rattle.std.specs.Prelude.{◌≡◌, refl, Bool, true, false, List, [], ◌∷◌, ℕ, zero, suc, ◌+◌, ◌*◌, ◌-◌, ◌/◌, ◌%◌, ◌^◌, ◌<◌, ◌≤◌, T, length, get_or, ℤ, pos, ◌+ℤ◌, ◌-ℤ◌, ◌*ℤ◌}
 use Rattle.std.proofs.Common.{◌∙◌, ap, subst, le_trans, le_refl, add-le-add, mul-le-mul, le-div_iff_mul-le, arith, leb→le, lit<, lit≤}
 use Rattle.arith.specs.Laws.Ring.{ring, Z·ring, by_ring}
 use Rattle.arith.specs.Within.{Within}
@@ -17,15 +17,40 @@ use Rattle.fixed_bands.proofs.Laws.Polynomials.{at_reach, at_multiple, at_minus}
 use Rattle.fixed_bands.specs.Models.{Model, fine, Follows}
 use Rattle.fixed_bands.specs.Traces.{Part30}
 use Rattle.fixed_bands.proofs.Laws.Traces.{part30_is, traces_last, traces_up, traces_down}
-use Rattle.fixed_bands.specs.Rows.{Line, Rises, RowAt, Sinks, also, apart, last, rise_line, rise_test, scale, sink_line, sink_test}
+use Rattle.fixed_bands.specs.Rows.{Line, Rises, RowAt, numbers, Sinks, also, apart, rise_line, rise_test, scale, sink_line, sink_test}
 
+-- ---- the rows of the code, one by one
+later : (r : Row) (rs : List Row) (i k : ℕ) → get_or (numbers rs) (6 * i + k) 0 ≡ get_or (numbers (r ∷ rs)) (6 * suc i + k) 0
+later r rs i k = ap (λ n. get_or (numbers (r ∷ rs)) n 0) (six i k)
+  where
+    six : (i k : ℕ) → suc (suc (suc (suc (suc (suc (6 * i + k)))))) ≡ 6 * suc i + k
+    six i k = omega arith
+
+pub rows_at : (rs : List Row) (d : Row) (i : ℕ) → i < length rs → RowAt (numbers rs) i (get_or rs i d)
+rows_at [] d i h = absurd (omega arith)
+rows_at (r ∷ rs) d zero h = record { is0 = refl; is1 = refl; is2 = refl; is3 = refl; is4 = refl; is5 = refl }
+rows_at (r ∷ rs) d (suc i) h =
+    let a = rows_at rs d i (omega arith) in
+    record {
+      is0 = a.is0 ∙ ap (λ n. get_or (numbers (r ∷ rs)) n 0) (first i);
+      is1 = a.is1 ∙ later r rs i 1;
+      is2 = a.is2 ∙ later r rs i 2;
+      is3 = a.is3 ∙ later r rs i 3;
+      is4 = a.is4 ∙ later r rs i 4;
+      is5 = a.is5 ∙ later r rs i 5;
+    }
+  where
+    first : (i : ℕ) → suc (suc (suc (suc (suc (suc (6 * i)))))) ≡ 6 * suc i
+    first i = omega arith
+
+-- ---- a row by its number, where that is below 32
 pub band_row : (tab : List ℕ) (k : ℕ) {i : ℕ} {r : Row} → i < 32 → i % 32 ≡ k → RowAt tab k r → RowAt tab i r
 band_row tab k {i} {r} l e f = subst (λ n. RowAt tab n r) (same i l e) f
   where
     same : (i : ℕ) → i < 32 → i % 32 ≡ k → k ≡ i
     same i l e = omega arith
 
--- a number that is at least k and is not k is more, and one that is at least k and below k + 1 is k
+-- a number that is at least k and is not k is more
 pub next : (k n : ℕ) → k ≤ n → (n ≡ k → ⊥) → suc k ≤ n
 next k n l h = omega arith
 

@@ -4,7 +4,7 @@
 use Rattle.std.specs.Prelude.{◌≡◌, ℕ, List, length, take, refl}
 use Rattle.std.proofs.Common.{sym, ap, ◌∙◌}
 use Rattle.lines.specs.Said.{pasted}
-use Rattle.projection.specs.Worked.{worked_forward}
+use Rattle.projection_worked.specs.Worked.{worked_forward}
 use Rattle.job.specs.declared.run.Run.{Run}
 use Rattle.job.specs.declared.run.Fed.{Fed}
 use Rattle.job.specs.Machine.{Progress, Took, fed, used_in}

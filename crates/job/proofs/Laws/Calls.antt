@@ -6,8 +6,8 @@ use Rattle.std.proofs.Math.Seq.{take-append_seam}
 use Rattle.rules.specs.JobFile.{job_by, RightJob}
 use Rattle.rules.proofs.Laws.Legs.{job_right}
 use Rattle.lines.specs.Said.{pasted}
-use Rattle.projection.specs.Worked.{worked_forward}
-use Rattle.projection.specs.Laws.Right.{right}
+use Rattle.projection_worked.specs.Worked.{worked_forward}
+use Rattle.projection_worked.proofs.Laws.Right.{right}
 use Rattle.job.specs.declared.run.Run.{Run}
 use Rattle.job_state.specs.Gathered.{chosen}
 use Rattle.job.specs.Machine.{Progress, start, fed, finished}

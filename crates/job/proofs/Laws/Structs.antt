@@ -1,15 +1,14 @@
 -- The run's struct: bytes after bytes, and a run that is stopped stays as it is, job, place and held bytes too. Assumes nothing.
-use Rattle.std.specs.Prelude.{◌≡◌, ℕ, Bool, true, false, List, [], ◌∷◌, ◌++◌, length, take, ◌==◌, refl}
+use Rattle.std.specs.Prelude.{◌≡◌, ℕ, Bool, true, false, List, [], ◌∷◌, ◌++◌, length, take, ◌==◌, refl, Some, None, Ok, Err}
 use Rattle.std.proofs.Common.{ap, ◌∙◌, arith}
 use Rattle.rules.specs.Refusals as rules
 use Rattle.rules.specs.Refusals.{answered, refused, crossed_at, body_cut_off}
 use Rattle.rules.specs.JobFile.{Step}
 use Rattle.lines.specs.Said.{pasted}
-use Rattle.projection.specs.Worked.{worked_forward}
+use Rattle.projection_worked.specs.Worked.{worked_forward}
 use Rattle.records.specs.declared.Record as records
-use Rattle.records.specs.declared.Read as reader
-use Rattle.records.specs.declared.Read.TheVariants.{Whole, Refused, End}
-use Rattle.records.specs.Reader.{read_at}
+use Rattle.terms.specs.Numbers.{number_of}
+use Rattle.records.specs.Reader.{Reading, read_at}
 use Rattle.job_state.specs.declared.state.Job.{Job}
 use Rattle.job_state.specs.Gathered.{chosen}
 use Rattle.job_state.specs.States.{view, stepped, left}
@@ -63,14 +62,14 @@ refused_left (answered d) i j e = absurd (let z : ◌≡◌ {A = ℕ} 0 1 = cc i
 refused_left (refused n) i j e = refl
 refused_left (crossed_at pair) i j e = refl
 
-stopped_by : (r : Run) (begun : Held) (found : reader.Read) → (run_by r begun found).stopped ≡ true → (run_by r begun found).job ≡ r.job
-stopped_by r begun (Whole item c) e = refused_left (stepped worked_forward (view r.job) item) item r.job e
-stopped_by r begun (Refused n at) e = go (n == body_cut_off)
+stopped_by : (r : Run) (begun : Held) (found : Reading) → (run_by r begun found).stopped ≡ true → (run_by r begun found).job ≡ r.job
+stopped_by r begun (Ok (Some whole)) e = refused_left (stepped worked_forward (view r.job) whole.item) whole.item r.job e
+stopped_by r begun (Err why) e = go (number_of why.refusal == body_cut_off)
   where
     go : (b : Bool) → (chosen b (waiting r begun) (refused_run r)).job ≡ r.job
     go true = refl
     go false = refl
-stopped_by r begun End e = refl
+stopped_by r begun (Ok None) e = refl
 
 pub refused_keeps : (r : Run) (byte : ℕ) → (run_byte r byte).stopped ≡ true → (run_byte r byte).job ≡ r.job
 unfolding run_byte

@@ -1,6 +1,6 @@
 -- The whole file: for every list of bytes, however it is cut into chunks, what Machine prints is exactly the rules' job (`chunked`). The one limit is that of the
 -- machine's counters: a file of less than 2^64 bytes. Assumes nothing.
-use Rattle.std.specs.Prelude.{◌≡◌, ℕ, suc, ◌+◌, ◌%◌, ◌^◌, ◌<◌, ◌≤◌, Bool, true, false, List, [], ◌∷◌, ◌++◌, length, ℤ, nat_lt}
+use Rattle.std.specs.Prelude.{◌≡◌, ℕ, suc, ◌+◌, ◌%◌, ◌^◌, ◌<◌, ◌≤◌, Bool, true, false, List, [], ◌∷◌, ◌++◌, length, ℤ, nat_lt, Some, Ok, Err}
 use Rattle.std.proofs.Math.Path.{refl, sym, ap, subst}
 use Rattle.std.proofs.Common.{◌∙◌, take_at, drop_at, take_all}
 use mathlib.Core.List.{append_assoc, append-nil}
@@ -13,10 +13,9 @@ use Rattle.rules.specs.Refusals.{◌>>=◌, answered, refused, crossed_at, kind_
 use Rattle.rules.specs.Points as points
 use Rattle.rules.specs.JobFile.{Kind, begin_field, corner, close_ring, nozzle_query, point_to_plane, begin_inner, Row, kinds, find_kind, State, no_field, gathering, accepted, gathering_inner, Step, step, Read, read, job_by}
 use Rattle.rules.proofs.Laws.Job.{after, from, job_from, from_end, from_record}
-use Rattle.records.specs.declared.Read as reader
-use Rattle.records.specs.declared.Read.TheVariants.{Whole, Refused}
+use Rattle.terms.specs.declared.refusals.Refusal.TheVariants.{KindUnknown, BodyCutOff}
 use Rattle.records.specs.Laws.Kinds.{Found, here, nowhere, found}
-use Rattle.records.specs.Reader.{parsed, framed, read_at}
+use Rattle.records.specs.Reader.{parsed, Reading, framed, read_at}
 use Rattle.job_state.specs.States.{stepped}
 use Rattle.job.specs.Machine.{Progress, running, stopped, start, joined, advanced, considered, byte_taken, fed, finished, over}
 use Rattle.job_lines.specs.Printed.{refusal_text, crossed_text}
@@ -114,25 +113,25 @@ module _ (f : ℕ → ℤ → ℤ → rules.Answer points.Point) where
         ++ printed_from (considered f s offset count (byte ∷ rest) (read_at (byte ∷ rest) 0)).next l
         ≡ from f s offset count (byte ∷ (rest ++ l))
 
-    comes_by : (r : reader.Read) → read_at (byte ∷ rest) 0 ≡ r
+    comes_by : (r : Reading) → read_at (byte ∷ rest) 0 ≡ r
         → (considered f s offset count (byte ∷ rest) r).printed ++ printed_from (considered f s offset count (byte ∷ rest) r).next l
         ≡ from f s offset count (byte ∷ (rest ++ l)) → Comes
     unfolding Comes
     comes_by r e h =
-        subst (λ (r : reader.Read). (considered f s offset count (byte ∷ rest) r).printed ++ printed_from (considered f s offset count (byte ∷ rest) r).next l
+        subst (λ (r : Reading). (considered f s offset count (byte ∷ rest) r).printed ++ printed_from (considered f s offset count (byte ∷ rest) r).next l
         ≡ from f s offset count (byte ∷ (rest ++ l))) (sym e) h
 
     no_kind : find_kind byte kinds ≡ refused kind_unknown → Comes
     unfolding considered read_at
     no_kind e =
-        comes_by (Refused kind_unknown 0) (rw e refl)
+        comes_by (Err (record { refusal = KindUnknown; at = 0 })) (rw e refl)
         (ap (λ (t : List ℕ). refusal_text kind_unknown offset ++ t) (stops l) ∙ append-nil (refusal_text kind_unknown offset)
         ∙ sym (from_record f s offset count byte (rest ++ l) ∙ ap (after f (from f) offset count (rest ++ l)) (read_none s byte (rest ++ l) e)))
 
     module _ (k : Row) (e : find_kind byte kinds ≡ answered k) where
       waits : length rest < k.body_length → printed_from (running s offset count (byte ∷ rest)) l ≡ from f s offset count (byte ∷ (rest ++ l)) → Comes
       unfolding considered read_at
-      waits h same = comes_by (Refused body_cut_off 0) (rw e (rw (lt-ltb (length rest) k.body_length h, framed) refl)) same
+      waits h same = comes_by (Err (record { refusal = BodyCutOff; at = 0 })) (rw e (rw (lt-ltb (length rest) k.body_length h, framed) refl)) same
 
       module _ (h : length rest ≡ k.body_length) (n : count ≤ offset) (o : offset + suc (length rest) + length l < 2 ^ 64) (same : Same l) where
         by_answer : (a : rules.Answer Step)
@@ -153,7 +152,7 @@ module _ (f : ℕ → ℤ → ℤ → rules.Answer points.Point) where
         whole : Comes
         unfolding considered read_at
         whole =
-            comes_by (Whole (parsed k.kind rest) (record { at = 0 + 1 + k.body_length }))
+            comes_by (Ok (Some (record { item = parsed k.kind rest; next = record { at = 0 + 1 + k.body_length } })))
             (rw e (rw (le-ltb (length rest) k.body_length (omega arith), framed) (rw (take_all k.body_length rest (omega arith)) refl)))
             (by_answer (stepped f s (parsed k.kind rest))
             ∙ sym (from_record f s offset count byte (rest ++ l) ∙ ap (after f (from f) offset count (rest ++ l)) (read_whole s byte k e rest l h)))

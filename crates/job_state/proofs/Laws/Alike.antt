@@ -1,23 +1,25 @@
 -- 01: "Two results allowed for one input are shown equal." Jobs that stand for one of the rules' states answer a record alike, and come to one state again
 -- (`takes_alike`); and of one job and one record the contract of `Job::take` allows one result, every place of the struct (`takes_one`). So a job that stays
 -- where it lies, and is answered by in_place, comes to what `Job::take` hands back (`answers-alike`, `stores-alike`). Assumes nothing.
-use Rattle.std.specs.Prelude.{◌≡◌, refl, ℤ, ℕ}
+use Rattle.std.specs.Prelude.{◌≡◌, refl, ℤ, ℕ, Ok}
 use Rattle.std.proofs.Common.{sym, ap, ◌∙◌}
 use Rattle.rules.specs.Refusals as rules
 use Rattle.rules.specs.Refusals.{answered, refused, crossed_at}
 use Rattle.rules.specs.Points as points
 use Rattle.rules.specs.JobFile.{State, Step}
-use Rattle.projection.specs.Worked.{worked_forward}
+use Rattle.projection_worked.specs.Worked.{worked_forward}
 use Rattle.records.specs.declared.Record as records
 use Rattle.records.specs.declared.Record.TheVariants as record_case
 use Rattle.job_state.specs.declared.state.Phase as phases
 use Rattle.job_state.specs.declared.state.Answer as answers
 use Rattle.job_state.specs.declared.state.Answer.TheVariants as answer_case
-use Rattle.job_state.specs.declared.state.Answer.TheVariants.{Silent, Field, Nozzle, Point, Refused, Crossed}
+use Rattle.job_state.specs.declared.state.Answer.TheVariants.{Silent, Field, Nozzle, Point, Refused}
 use Rattle.job_state.specs.declared.state.Job.{Job}
 use Rattle.job_state.specs.declared.state.Taken.{Taken}
 use Rattle.job_state.specs.States.{view, paper, stepped, after_record, left, Stepping}
 use Rattle.job_state.specs.InPlace.{Counts, Answering, Cornering}
+use Rattle.job_state.proofs.Refusals.{by_refusal}
+use Rattle.job_state.proofs.Steps.{left_refused}
 use Rattle.job_state.proofs.Laws.Lines.{told_apart}
 
 -- the state after a record, by what the paper has of its answer; after a refusal, the state before it
@@ -34,8 +36,8 @@ state_is (Field c n m) i j k e = refl
 state_is (answer_case.Inner l n m) i j k e = refl
 state_is (Nozzle X Y p) i j k e = refl
 state_is (Point X Y m c) i j k e = refl
-state_is (Refused n) i j k e = ap view e
-state_is (Crossed r l m looked) i j k e = ap view e
+state_is (Refused r) i j k e =
+    ap view (e ∙ left_refused r i j) ∙ by_refusal r (λ a. view j ≡ state_of (view j) a) (λ n. refl) (λ pair. refl)
 
 after_is : {s : rules.Answer Step} {i : records.Record} {j : Job} {t : Taken} → Stepping s i j t → view t.job ≡ state_of (view j) s
 after_is {s} {i} {j} {t} h =
@@ -62,7 +64,7 @@ pub answers_alike : {has : Job → Type 0} {i : records.Record} {a : answers.Ans
     → Stepping (stepped worked_forward (view j) i) i j t → t ≡ record { job = j; answer = a }
 answers_alike {j = j} h g s = takes_one s (h.steps j g)
 
-pub stores_alike : {p : phases.Phase} {n : ℕ} {X Y : ℤ} {j : Job} {t : Taken} → Cornering p n X Y 0 → Counts p n j
+pub stores_alike : {p : phases.Phase} {n : ℕ} {X Y : ℤ} {j : Job} {t : Taken} → Cornering p n X Y (Ok tt) → Counts p n j
     → Stepping (stepped worked_forward (view j) (record_case.Corner X Y)) (record_case.Corner X Y) j t
     → t ≡ record { job = after_record (record_case.Corner X Y) j; answer = Silent }
 stores_alike {j = j} h g s = takes_one s (h.stores refl j g)

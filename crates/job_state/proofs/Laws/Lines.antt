@@ -6,11 +6,14 @@ use Rattle.rules.specs.Refusals as rules
 use Rattle.rules.specs.Refusals.{answered, refused, crossed_at}
 use Rattle.rules.specs.JobFile.{State, Step, text, digits_by, decimal, whole}
 use Rattle.rules.proofs.Laws.Job.{stands_for, decimal_stands}
-use Rattle.job_state.specs.declared.state.Position as positions
-use Rattle.job_state.specs.declared.state.Position.TheVariants.{Open, Border, Shut}
+use Rattle.terms.specs.declared.positions.Position as positions
+use Rattle.terms.specs.declared.positions.Position.TheVariants.{Open, Border, Shut}
+use Rattle.terms.specs.declared.refusals.Refusal.{Refusal}
+use Rattle.terms.specs.declared.refusals.Refusal.TheVariants as refusal_case
+use Rattle.terms.specs.Papers.{refusal_paper}
 use Rattle.job_state.specs.declared.state.Answer as answers
 use Rattle.job_state.specs.declared.state.Answer.TheVariants as answer_case
-use Rattle.job_state.specs.declared.state.Answer.TheVariants.{Silent, Field, Nozzle, Point, Refused, Crossed}
+use Rattle.job_state.specs.declared.state.Answer.TheVariants.{Silent, Field, Nozzle, Point, Refused}
 use Rattle.job_state.specs.Gathered.{chosen}
 use Rattle.job_state.specs.States.{word, line, paper}
 
@@ -131,10 +134,15 @@ line_told : List ℕ → answers.Answer
 line_told [] = Silent
 line_told (c ∷ l) = chosen (eqb c 102) (field_told (rest l)) (chosen (eqb c 105) (inner_told (rest l)) (chosen (eqb c 110) (nozzle_told (rest l)) (point_told (rest l))))
 
+-- the refusal with a number: those of the calls, but for a crossed ring's, which has its pair
+numbered : ℕ → Refusal
+numbered n =
+    chosen (eqb n 1) refusal_case.CodeUnknown (chosen (eqb n 2) refusal_case.LatitudeOutside (chosen (eqb n 3) refusal_case.LongitudeOutside (chosen (eqb n 4) refusal_case.PlaneOutside (chosen (eqb n 5) refusal_case.EllipsoidsDiffer (chosen (eqb n 6) refusal_case.CornerCount (chosen (eqb n 7) refusal_case.CornerNumber (chosen (eqb n 8) refusal_case.SpanTooLarge (chosen (eqb n 11) refusal_case.KindUnknown (chosen (eqb n 12) refusal_case.BodyCutOff (chosen (eqb n 13) refusal_case.OutOfPlace (chosen (eqb n 14) refusal_case.OutputTooShort (chosen (eqb n 15) refusal_case.BadlyPlaced (refusal_case.TooManyRings)))))))))))))
+
 told : rules.Answer Step → answers.Answer
 told (answered d) = line_told d.printed
-told (refused n) = Refused n
-told (crossed_at pair) = Crossed pair.ring pair.low pair.high pair.looked_at
+told (refused n) = Refused (numbered n)
+told (crossed_at pair) = Refused (refusal_case.RingCrossed (record { ring = pair.ring; low = pair.low; high = pair.high; looked_at = pair.looked_at }))
 
 module _ {a b c d : List ℕ} (p : Above 32 a) (q : Above 32 b) (r : Above 32 c) (s : Above 32 d) where
   field_words : field_told (a ++ (text " corners " ++ (b ++ (text " area2 " ++ (c ++ text "\n"))))) ≡ Field (stands_for 0 a) (stands_for 0 b) (signed_number c)
@@ -172,6 +180,24 @@ point_line : (X Y k c : ℤ)
 unfolding line
 point_line X Y k c = simp append_assoc
 
+refusal_back : (r : Refusal) → told (refusal_paper r) ≡ Refused r
+unfolding told numbered
+refusal_back refusal_case.CodeUnknown = refl
+refusal_back refusal_case.LatitudeOutside = refl
+refusal_back refusal_case.LongitudeOutside = refl
+refusal_back refusal_case.PlaneOutside = refl
+refusal_back refusal_case.EllipsoidsDiffer = refl
+refusal_back refusal_case.CornerCount = refl
+refusal_back refusal_case.CornerNumber = refl
+refusal_back refusal_case.SpanTooLarge = refl
+refusal_back (refusal_case.RingCrossed pair) = refl
+refusal_back refusal_case.KindUnknown = refl
+refusal_back refusal_case.BodyCutOff = refl
+refusal_back refusal_case.OutOfPlace = refl
+refusal_back refusal_case.OutputTooShort = refl
+refusal_back refusal_case.BadlyPlaced = refl
+refusal_back refusal_case.TooManyRings = refl
+
 told_back : (a : answers.Answer) (s : State) → told (paper a s) ≡ a
 unfolding told line_told line rest
 told_back Silent s = refl
@@ -183,8 +209,7 @@ told_back (Nozzle X Y p) s =
     ap line_told (nozzle_line X Y p) ∙ nozzle_words (whole_word X) (whole_word Y) (position_word p) none ∙ simp (whole_back, position_back)
 told_back (Point X Y k c) s =
     ap line_told (point_line X Y k c) ∙ point_words (whole_word X) (whole_word Y) (whole_word k) (whole_word c) ∙ simp whole_back
-told_back (Refused n) s = refl
-told_back (Crossed k i j looked) s = refl
+told_back (Refused r) s = refusal_back r
 
 -- two answers of which the paper has the same are the same
 pub told_apart : (a b : answers.Answer) (s t : State) → paper a s ≡ paper b t → a ≡ b

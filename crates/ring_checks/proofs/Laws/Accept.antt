@@ -1,18 +1,22 @@
 -- The checks 6, 7 and 8 as the code makes them, and what an accepted list has. Assumes nothing.
-use Rattle.std.specs.Prelude.{◌≡◌, refl, Bool, true, false, cond, ◌||◌, ◌⊎◌, ℕ, zero, suc, ◌+◌, ◌*◌, ◌%◌, ◌<◌, ◌≤◌, ℤ, pos, nat_abs, ◌-ℤ◌, length, drop, get_or, ◌≤ℤ◌}
-use Rattle.std.proofs.Common.{sym, ◌∙◌, ap₂, arith, lt-ltb, le-ltb}
+use Rattle.std.specs.Prelude.{◌≡◌, refl, Bool, true, false, cond, ◌⊎◌, ℕ, zero, suc, ◌+◌, ◌*◌, ◌%◌, ◌<◌, ◌≤◌, ℤ, pos, nat_abs, ◌-ℤ◌, length, get_or, ◌≤ℤ◌}
+use Rattle.std.proofs.Common.{sym, ◌∙◌, arith}
 use Rattle.std.proofs.Math.Path.{ap}
 use Rattle.std.proofs.Math.Logic.{inl, inr, ⊎_elim}
 use mathlib.Core.List.{List, [], ◌∷◌, map, Memᴰ}
 use Rattle.std.proofs.Math.Decide.{dec_lt}
-use Rattle.arith.specs.Laws.Diff.{◌⊖◌, Z·abs, lin}
-use Rattle.rules.specs.Refusals.{Answer, answered, refused, crossed_at, ◌>>=◌, ◌>>◌, ◌if◌}
+use Rattle.arith.specs.Laws.Diff.{Z·abs, lin}
+use Rattle.rules.specs.Refusals.{Answer, answered, refused, Passed, passed, ◌>>=◌, ◌>>◌, ◌if◌}
 use Rattle.rules.specs.Rings.{Corner, origin}
-use Rattle.rules.specs.RingAnswers.{corners, count_bad, any_bad, span_bad, span, ring_checks}
+use Rattle.rules.specs.RingAnswers.{count_bad, any_bad, span_bad, span, ring_checks}
 use Rattle.rules.proofs.Laws.Checks.{or_true, count_exact, ltb_true, span_exact, span_bad_exact}
 use Rattle.ring_checks.specs.Refusal.{refusal_of}
-use Rattle.ring_corners.specs.Corners.{pairs, Near, Accepted}
 use Rattle.ring_checks.specs.Reach.{corners_refusal}
+use Rattle.ring_checks.specs.Checks.{checked, numbers_checked}
+use Rattle.ring_corners.specs.Corners.{pairs, Accepted}
+use Rattle.terms.specs.declared.refusals.Refusal.{Refusal}
+use Rattle.ring_checks.proofs.Laws.Steps.{refused_passed}
+use Rattle.terms.specs.Papers.{refusal_paper}
 use Rattle.ring_corners.specs.Laws.Flat.{count_of, corners_even, corners_odd}
 
 -- the checks of the corners
@@ -27,11 +31,11 @@ checks_odd : (l : List ℤ) → length l ≡ 2 * length (pairs l) + 1 → ring_c
 unfolding ring_checks
 checks_odd l e = rw (corners_odd l e) refl
 
-judged_number : (n s : Bool) (r : List Corner) → refusal_of (judged false n s r) ≡ cond n 7 (cond s 8 0)
+judged_numbers : (n s : Bool) (r : List Corner) → (judged false n s r >> answered passed) ≡ 7 if n >> (8 if s)
 unfolding judged
-judged_number true s r = refl
-judged_number false true r = refl
-judged_number false false r = refl
+judged_numbers true s r = refl
+judged_numbers false true r = refl
+judged_numbers false false r = refl
 
 count_met : (r : List Corner) → (length r < 3) ⊎ (1024 < length r) → count_bad r ≡ true
 unfolding count_bad
@@ -39,28 +43,26 @@ count_met r h = (or_true _ _).1 (⊎_elim (λ k. inl ((ltb_true (length r) 3).1 
 
 -- ---- as the code asks
 module _ (l : List ℤ) where
-  pub odd_refused : length l % 2 ≡ 1 → refusal_of (ring_checks l) ≡ 6
-  odd_refused h = let c = count_of l in ap refusal_of (checks_odd l (omega arith))
+  pub odd_refused : length l % 2 ≡ 1 → checked l ≡ refused 6
+  odd_refused h = let c = count_of l in ap (λ (a : Answer (List Corner)). a >> answered passed) (checks_odd l (omega arith))
 
   module _ (even : length l % 2 ≡ 1 → ⊥) where
     halves : length l ≡ 2 * length (pairs l)
     halves = let c = count_of l in omega (arith, even)
 
-    pub count_refused : (length l < 6) ⊎ (2048 < length l) → refusal_of (ring_checks l) ≡ 6
+    by_tests : {c : Bool} → count_bad (pairs l) ≡ c → checked l ≡ (judged c (any_bad (pairs l)) (span_bad (pairs l)) (pairs l) >> answered passed)
+    by_tests e = ap (λ (a : Answer (List Corner)). a >> answered passed) (checks_even l halves ∙ ap (λ (b : Bool). judged b (any_bad (pairs l)) (span_bad (pairs l)) (pairs l)) e)
+
+    pub count_refused : (length l < 6) ⊎ (2048 < length l) → checked l ≡ refused 6
     unfolding judged
-    count_refused h =
-        ap refusal_of (checks_even l halves
-        ∙ ap (λ (b : Bool). judged b (any_bad (pairs l)) (span_bad (pairs l)) (pairs l)) (count_met (pairs l)
-        (let e = halves in ⊎_elim (λ k. inl (omega arith)) (λ k. inr (omega arith)) h)))
+    count_refused h = by_tests (count_met (pairs l) (let e = halves in ⊎_elim (λ k. inl (omega arith)) (λ k. inr (omega arith)) h))
 
     pub counted : 6 ≤ length l → length l ≤ 2048 → count_bad (pairs l) ≡ false
     counted h k = let e = halves in (count_exact (pairs l)).1 (omega arith)
 
-    pub numbers_refuse : 6 ≤ length l → length l ≤ 2048 → refusal_of (ring_checks l) ≡ corners_refusal (pairs l)
-    unfolding corners_refusal
-    numbers_refuse h k =
-        ap refusal_of (checks_even l halves ∙ ap (λ (b : Bool). judged b (any_bad (pairs l)) (span_bad (pairs l)) (pairs l)) (counted h k))
-        ∙ judged_number (any_bad (pairs l)) (span_bad (pairs l)) (pairs l)
+    pub numbers_decide : 6 ≤ length l → length l ≤ 2048 → checked l ≡ numbers_checked (pairs l)
+    unfolding numbers_checked
+    numbers_decide h k = by_tests (counted h k) ∙ judged_numbers (any_bad (pairs l)) (span_bad (pairs l)) (pairs l)
 
     pub some : 6 ≤ length l → 0 < length (pairs l)
     some h = let e = halves in omega arith
@@ -119,9 +121,33 @@ judgement l = parity (count_of l)
         either_way : (n m : ℕ) → 2 * n ≤ m → m ≤ 2 * n + 1 → (m ≡ 2 * n) ⊎ (m ≡ 2 * n + 1)
         either_way n m h k = elim (dec_lt (2 * n) m) [ yes g ↦ inr (omega arith) | no g ↦ inl (omega arith) ]
 
--- ---- by the number that `ring_refusal` answers
-pub accepted : (l : List ℤ) → refusal_of (ring_checks l) ≡ 0 → (ring_checks l ≡ answered (pairs l)) × Accepted l
-accepted l e = ⊎_elim (λ h. h) (λ h. absurd (let f = sym (ap refusal_of h.1) ∙ e in let k = h.2 in omega arith)) (judgement l)
+-- ---- by what `check` answers
+module _ (l : List ℤ) where
+  pub accepted : answered passed ≡ checked l → (ring_checks l ≡ answered (pairs l)) × Accepted l
+  accepted e = ⊎_elim (λ h. h) (λ h. absurd (let f = e ∙ ap (λ (a : Answer (List Corner)). a >> answered passed) h.1 in clash h.0 f)) (judgement l)
+    where
+      clash : (n : ℕ) → ◌≡◌ {A = Answer Passed} (answered passed) (refused n) → ⊥
+      clash n f = let w : ◌≡◌ {A = ℕ} 0 1 = cc f in omega arith
+
+  -- a refusal is the answer of each call, whatever is asked of the corners
+  pub refuses : {A : Type 0} (r : Refusal) (f : List Corner → Answer A) → refusal_paper r ≡ checked l → refusal_paper r ≡ ring_checks l >>= f
+  refuses r f e = refused_passed (ring_checks l) r f e
+
+-- ---- by the number of a refusal
+judged_number : (n s : Bool) (r : List Corner) → refusal_of (judged false n s r) ≡ cond n 7 (cond s 8 0)
+unfolding judged
+judged_number true s r = refl
+judged_number false true r = refl
+judged_number false false r = refl
+
+pub numbers_refuse : (l : List ℤ) → (length l % 2 ≡ 1 → ⊥) → 6 ≤ length l → length l ≤ 2048 → refusal_of (ring_checks l) ≡ corners_refusal (pairs l)
+unfolding corners_refusal
+numbers_refuse l even h k =
+    ap refusal_of (checks_even l (halves l even) ∙ ap (λ (b : Bool). judged b (any_bad (pairs l)) (span_bad (pairs l)) (pairs l)) (counted l even h k))
+    ∙ judged_number (any_bad (pairs l)) (span_bad (pairs l)) (pairs l)
+
+pub none_refused : (l : List ℤ) → refusal_of (ring_checks l) ≡ 0 → (ring_checks l ≡ answered (pairs l)) × Accepted l
+none_refused l e = ⊎_elim (λ h. h) (λ h. absurd (let f = sym (ap refusal_of h.1) ∙ e in let k = h.2 in omega arith)) (judgement l)
 
 pub not_accepted : (l : List ℤ) → 0 < refusal_of (ring_checks l) → ring_checks l ≡ refused (refusal_of (ring_checks l))
 not_accepted l k = ⊎_elim

@@ -3,11 +3,10 @@ use Rattle.std.specs.Prelude.{◌≡◌, refl, Bool, true, false, List, [], ◌�
 use Rattle.std.proofs.Common.{sym, ◌∙◌, ap, arith, lt-ltb, le-ltb, to_z-of_z, SFits, to_z, of_z}
 use Rattle.std.proofs.Math.Decide.{dec_lt}
 use Rattle.std.specs.Int.{w64}
-use Rattle.rules.specs.Refusals.{Answer, answered, refused}
-use Rattle.rules.specs.RingAnswers.{corners, numbers_of}
-use Rattle.rules.specs.Rings.{Corner, origin}
-use Rattle.rules.proofs.Laws.RingChecks.{corners_of, even_or_odd}
-use Rattle.ring_corners.specs.Corners.{pairs, Accepted, next_of}
+use Rattle.rules.specs.Refusals.{answered, refused}
+use Rattle.rules.specs.RingAnswers.{corners}
+use Rattle.rules.specs.Rings.{origin}
+use Rattle.ring_corners.specs.Corners.{corner, pairs, Accepted, next_of}
 
 twice : (i : ℕ) → 2 * suc i ≡ suc (suc (2 * i))
 twice i = omega arith
@@ -35,6 +34,9 @@ unfolding pairs
 count_of [] = omega arith
 count_of (a ∷ []) = omega arith
 count_of (a ∷ b ∷ l) = omega (arith, count_of l)
+
+pub corner_is : (l : List ℤ) (i : ℕ) → i < length (pairs l) → corner (get_or l (2 * i) (pos 0)) (get_or l (2 * i + 1) (pos 0)) ≡ get_or (pairs l) i origin
+corner_is l i h = λ k. corner (sym (x_of l i h) k) (sym (y_of l i h) k)
 
 -- a list of even length is its corners; one of odd length is refused
 pub corners_even : (l : List ℤ) → length l ≡ 2 * length (pairs l) → corners l ≡ answered (pairs l)

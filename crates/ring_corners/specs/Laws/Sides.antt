@@ -1,20 +1,22 @@
 -- The sign of D by cases: a point beyond both ends in Y, and one between them. Assumes nothing.
-use Rattle.std.specs.Prelude.{◌≡◌, Bool, true, false, ◌&&◌, ◌||◌, ◌↔◌, ◌⊎◌, List, [], ◌∷◌, ℕ, zero, suc, ◌≤◌, T, ℤ, negsuc, nat_abs, neg_ℤ, ◌+ℤ◌, ◌-ℤ◌, ◌*ℤ◌, ◌≤ℤ◌, ◌<ℤ◌}
+use Rattle.std.specs.Prelude.{◌≡◌, Bool, true, false, ◌&&◌, ◌↔◌, ◌⊎◌, [], ◌∷◌, ℕ, zero, suc, ◌≤◌, T, ℤ, negsuc, nat_abs, neg_ℤ, ◌+ℤ◌, ◌-ℤ◌, ◌*ℤ◌, ◌≤ℤ◌, ◌<ℤ◌}
 use Rattle.std.proofs.Math.Path.{refl, subst}
-use Rattle.std.proofs.Common.{sym, ◌∙◌, ap, ap₂, inl, inr, ⊎_elim, arith}
+use Rattle.std.proofs.Common.{sym, ◌∙◌, ap, ap₂, ⊎_elim, arith}
 use Rattle.std.proofs.Math.Dec.{leb-zero, leb-suc-zero, leb-suc-suc}
 use Rattle.std.proofs.Math.IntN.{pos}
+use Rattle.std.specs.Ordering.{int_cmp, MatchOrdering}
+use Rattle.std.specs.Cmp.{int_ranks}
 use Rattle.std.specs.Int.Signed.{le_z, lt_z, le_z_yes, clash_ℤ, ≤ℤ_refl}
-use Rattle.arith.specs.Laws.Diff.{◌⊖◌, Z·ℕ, Z·abs, lin}
+use Rattle.arith.specs.Laws.Diff.{Z·ℕ, Z·abs, lin}
 use Rattle.arith.specs.Laws.Order.{≤ℤ_or-<ℤ, ≤ℤ_antisym, <ℤ→≤ℤ, mul_nonneg, mul_pos_pos, sub_nonneg, sub_pos, +ℤ_mono-<}
 use Rattle.arith.specs.Laws.Ring.{ring, Z·ring, by_ring}
-use Rattle.rules.specs.Rings.{Corner, Edge, D, turn, bit, ◌to◌, is_zero, between, on}
+use Rattle.rules.specs.Rings.{Corner, Edge, D, area_term, turn, bit, ◌to◌}
 use Rattle.rules.proofs.Laws.Checks.{lt_z_true, lt_z_false}
 use Rattle.rules.proofs.Laws.Sums.{side_back}
-use Rattle.ring_corners.specs.Corners.{Apart, Near, Wide}
+use Rattle.ring_corners.specs.Corners.{seen_from, Small, Apart, Near, Wide}
 use Rattle.ring_corners.specs.Sides.{sign_of, rise_of, fall_of}
-use Rattle.ring_corners.specs.declared.sides.Sign.{Sign}
-use Rattle.ring_corners.specs.declared.sides.Sign.TheVariants.{Positive, Zero, Negative}
+use Rattle.std.specs.declared.cmp.Ordering.{Ordering}
+use Rattle.std.specs.declared.cmp.Ordering.TheVariants.{Less, Equal, Greater}
 
 -- ---- tests
 pub le_z_true : (a b : ℤ) → (le_z a b ≡ true) ↔ (a ≤ℤ b)
@@ -32,18 +34,39 @@ le_z_false a b = (λ e. ⊎_elim (λ h. absurd (subst T e h.le)) (λ h. h) (≤�
     go false e h = refl
 
 -- ---- signs
-pub sign_positive : (z : ℤ) → pos 0 <ℤ z → sign_of z ≡ Positive
+pub sign_positive : (z : ℤ) → pos 0 <ℤ z → sign_of z ≡ Greater
 unfolding sign_of
 sign_positive (pos zero) h = absurd (clash_ℤ h (≤ℤ_refl (pos 0)))
 sign_positive (pos (suc n)) h = refl
 sign_positive (negsuc n) h = absurd h.lt
 
-pub sign_negative : (z : ℤ) → z <ℤ pos 0 → sign_of z ≡ Negative
+pub sign_negative : (z : ℤ) → z <ℤ pos 0 → sign_of z ≡ Less
 unfolding sign_of
 sign_negative (pos n) h = absurd (clash_ℤ h (record { le = subst T (sym (leb-zero n)) tt }))
 sign_negative (negsuc n) h = refl
 
-pub sign_zero : (z : ℤ) → z ≤ℤ pos 0 → pos 0 ≤ℤ z → sign_of z ≡ Zero
+zero_sign_of : sign_of (pos 0) ≡ Equal
+unfolding sign_of
+zero_sign_of = refl
+
+-- as std compares a number with 0
+pub sign_is : (z : ℤ) → int_cmp z (pos 0) ≡ sign_of z
+sign_is z = go (int_cmp z (pos 0)) (int_ranks z (pos 0))
+  where
+    go : (o : Ordering) → MatchOrdering o (z <ℤ pos 0) (z ≡ pos 0) (pos 0 <ℤ z) → o ≡ sign_of z
+    go Less h = sym (sign_negative z h)
+    go Equal h = sym (ap sign_of h ∙ zero_sign_of)
+    go Greater h = sym (sign_positive z h)
+
+-- ---- D, seen from the edge's start
+pub seen_small : {w : ℕ} (a b c : Corner) → Apart w b a → c ≡ seen_from a b → Small w c
+seen_small a b c h e = rw e (h.x_near, h.y_near)
+
+pub side_is : {z : ℤ} (a b p u v : Corner) → z ≡ area_term (u to v) → u ≡ seen_from a b → v ≡ seen_from a p → z ≡ D a b p
+unfolding D area_term
+side_is a b p u v e f g = e ∙ ap₂ (λ (s t : Corner). area_term (s to t)) f g
+
+pub sign_zero : (z : ℤ) → z ≤ℤ pos 0 → pos 0 ≤ℤ z → sign_of z ≡ Equal
 unfolding sign_of
 sign_zero z h k = ap sign_of (≤ℤ_antisym h k)
 
@@ -70,6 +93,12 @@ module _ (a b p : Corner) (start : a.x ≤ℤ p.x) (stop : p.x <ℤ b.x) where
   unfolding D
   below_both h k = neg_pos _ (subst (λ (z : ℤ). pos 0 <ℤ z) (sym (parts_below a.x a.y b.x b.y p.x p.y))
       (+ℤ_mono-< (mul_pos_pos ((sub_pos p.x b.x).1 stop) ((sub_pos p.y a.y).1 h)) (mul_nonneg ((sub_nonneg a.x p.x).1 start) ((sub_nonneg p.y b.y).1 (<ℤ→≤ℤ k)))))
+
+  pub sign_above : a.y <ℤ p.y → b.y <ℤ p.y → sign_of (D a b p) ≡ Greater
+  sign_above h k = sign_positive (D a b p) (above_both h k)
+
+  pub sign_below : p.y <ℤ a.y → p.y <ℤ b.y → sign_of (D a b p) ≡ Less
+  sign_below h k = sign_negative (D a b p) (below_both h k)
 
 -- ---- a point between the ends is as near as they are
 between_up : (a b z : ℤ) (n : ℕ) → nat_abs (b -ℤ a) ≤ n → a ≤ℤ z → z ≤ℤ b → nat_abs (z -ℤ a) ≤ n

@@ -1,6 +1,6 @@
 -- Signed integers of the code, beside Laws.Machine of arith: a negative literal, a difference that is small though its parts are not, a result read back. Assumes nothing.
-use Rattle.std.specs.Prelude.{◌≡◌, refl, true, false, ℕ, suc, ◌^◌, ◌≤◌, T, ltb, ℤ, pos, negsuc, nat_abs, ◌+ℤ◌, ◌-ℤ◌, ◌≤ℤ◌, ◌<ℤ◌}
-use Rattle.std.proofs.Common.{sym, ◌∙◌, ap, ap₂, subst₂, le_refl, to_z-of_z}
+use Rattle.std.specs.Prelude.{◌≡◌, refl, true, false, ℕ, suc, ◌^◌, ◌≤◌, T, ltb, ℤ, negsuc, nat_abs, ◌-ℤ◌, ◌≤ℤ◌, ◌<ℤ◌}
+use Rattle.std.proofs.Common.{sym, ◌∙◌, ap₂, subst₂, le_refl, to_z-of_z}
 use Rattle.std.specs.Int.Signed.{le_z, lt_z}
 use Rattle.std.specs.Int.{Width, w64}
 use mir.Val.{SFits, hbits, to_z, of_z}

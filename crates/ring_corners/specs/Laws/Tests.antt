@@ -1,10 +1,9 @@
 -- Tests joined by `&&`, and the test for zero by a sign. Assumes nothing.
 use Rattle.std.specs.Prelude.{◌≡◌, refl, Bool, true, false, ◌&&◌, zero, suc, ℤ, pos, negsuc}
+use Rattle.std.specs.Ordering.{is_eq}
 use Rattle.std.proofs.Math.Dec.{leb-suc-zero}
 use Rattle.rules.specs.Rings.{is_zero}
 use Rattle.ring_corners.specs.Sides.{sign_of}
-use Rattle.ring_corners.specs.declared.sides.Sign.{Sign}
-use Rattle.ring_corners.specs.declared.sides.Sign.TheVariants.{Positive, Zero, Negative}
 
 pub and_true : {a b : Bool} → a ≡ true → b ≡ true → (a && b) ≡ true
 and_true e f = rw (e, f) refl
@@ -16,12 +15,7 @@ pub and_right : (a : Bool) {b : Bool} → b ≡ false → (a && b) ≡ false
 and_right true e = e
 and_right false e = refl
 
-abbrev pub zero_sign : Sign → Bool
-zero_sign Positive = false
-zero_sign Zero = true
-zero_sign Negative = false
-
-pub zero_is : (z : ℤ) → is_zero z ≡ zero_sign (sign_of z)
+pub zero_is : (z : ℤ) → is_zero z ≡ is_eq (sign_of z)
 unfolding sign_of
 zero_is (pos zero) = refl
 zero_is (pos (suc n)) = rw (leb-suc-zero n) refl

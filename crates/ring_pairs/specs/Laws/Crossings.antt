@@ -3,21 +3,28 @@ use Rattle.std.specs.Prelude.{◌≡◌, Bool, true, ◌&&◌, ◌||◌, [], ◌
 use Rattle.std.proofs.Math.Path.{refl, ap}
 use Rattle.std.proofs.Common.{sym, ◌∙◌, ap₂, subst, inl, inr, ⊎_elim, arith}
 use Rattle.std.proofs.Math.Bool.{false, not}
+use Rattle.std.proofs.lemmas.Bool.{false≢true}
+use Rattle.std.specs.Bool.{Decides}
+use Rattle.std.proofs.lemmas.Bool.Decides.{Decides-int_eq}
+use Rattle.std.specs.Ordering.{int_eq, is_eq}
+use Rattle.std.specs.Int.{int_min, int_max}
 use Rattle.std.specs.Int.Signed.{le_z, lt_z, <ℤ-≤ℤ_trans}
 use Rattle.arith.specs.Laws.Diff.{Z·ℕ, lin}
-use Rattle.arith.specs.Laws.Order.{≤ℤ-<ℤ_trans, <ℤ_trans, <ℤ→≤ℤ}
+use Rattle.arith.specs.Laws.Order.{≤ℤ-<ℤ_trans, <ℤ_trans, <ℤ→≤ℤ, ≤ℤ_of_eq, tricho}
 use Rattle.rules.specs.Rings.{Corner, ◌to◌, D, is_zero}
 use Rattle.rules.specs.RingAnswers.{smaller, larger}
 use Rattle.rules.specs.Crossing.{before, overlap, aside, meets, folds}
 use Rattle.rules.proofs.Laws.Checks.{lt_z_true, lt_z_false, or_true, or_false}
 use Rattle.rules.proofs.Laws.Meeting.{T_and}
 use Rattle.rules.proofs.Laws.Folding.{T_zero}
+use Rattle.ring_boxes.specs.Boxes.{lower, upper}
+use Rattle.ring_corners.specs.Laws.Extremes.{min_is, max_is}
 use Rattle.ring_pairs.specs.Crossings.{outside, away, straddle, ahead, no_length}
-use Rattle.ring_corners.specs.Sides.{sign_of}
 use Rattle.ring_corners.specs.Laws.Sides.{le_z_true, le_z_false}
-use Rattle.ring_corners.specs.Laws.Tests.{and_true, and_left, and_right, zero_is, zero_sign}
-use Rattle.ring_corners.specs.declared.sides.Sign.{Sign}
-use Rattle.ring_corners.specs.declared.sides.Sign.TheVariants.{Zero}
+use Rattle.ring_corners.specs.Laws.Tests.{and_true, and_left, and_right, zero_is}
+use Rattle.ring_corners.specs.Sides.{sign_of}
+use Rattle.std.specs.declared.cmp.Ordering.{Ordering}
+use Rattle.std.specs.declared.cmp.Ordering.TheVariants.{Equal}
 
 -- ---- boxes, by the smaller and the larger end
 implied : (x y : Bool) → (x ≡ true → y ≡ true) → x ≡ (x && y)
@@ -63,11 +70,25 @@ apart_is a b c d =
     (ap₂ ◌&&◌ (smaller_above a b c) (smaller_above a b d))
     ∙ sym (neither ((lt_z a c && lt_z a d) && (lt_z b c && lt_z b d)) ((lt_z c a && lt_z c b) && (lt_z d a && lt_z d b)))
 
--- as the code tests it
-pub outside_is : (low high c d : ℤ) → (lt_z high (smaller c d) || lt_z (larger c d) low) ≡ outside low high c d
+outside_is : (low high c d : ℤ) → (lt_z high (smaller c d) || lt_z (larger c d) low) ≡ outside low high c d
 unfolding outside
 outside_is low high c d = ap₂ ◌||◌ (smaller_above c d high) (larger_below c d low)
 
+-- as the code tests it: m and n are the lesser and the greater of c and d
+module _ (low high c d m : ℤ) (lesser : m ≡ int_min c d) where
+  at : m ≡ smaller c d
+  at = lesser ∙ min_is c d
+
+  pub over_high : high <ℤ m → lt_z high m ≡ outside low high c d
+  over_high h = (lt_z_true high m).1 h ∙ sym ((or_true _ _).1 (inl (ap (lt_z high) (sym at) ∙ (lt_z_true high m).1 h))) ∙ outside_is low high c d
+
+  pub under_low : (n : ℤ) → n ≡ int_max c d → m ≤ℤ high → lt_z n low ≡ outside low high c d
+  under_low n greater h =
+      ap (λ (z : ℤ). lt_z z low) (greater ∙ max_is c d)
+      ∙ ap (λ (t : Bool). t || lt_z (larger c d) low) (sym ((lt_z_false high m).1 h) ∙ ap (lt_z high) at)
+      ∙ outside_is low high c d
+
+-- one test after the other
 module _ (low high c d : ℤ) where
   pub clear_above : high <ℤ c → (lt_z high c || lt_z d low) ≡ true
   clear_above h = (or_true (lt_z high c) (lt_z d low)).1 (inl ((lt_z_true high c).1 h))
@@ -79,14 +100,6 @@ module _ (low high c d : ℤ) where
   not_clear h k = (or_false (lt_z high c) (lt_z d low)).1 ((lt_z_false high c).1 h, (lt_z_false d low).1 k)
 
 -- ---- signs
-not_yes : (x : Bool) → not x ≡ true → x ≡ false
-not_yes true e = sym e
-not_yes false e = refl
-
-not_no : (x : Bool) → not x ≡ false → x ≡ true
-not_no true e = refl
-not_no false e = sym e
-
 module _ (s t : ℤ) where
   pub aside_positive : pos 0 <ℤ s → pos 0 <ℤ t → aside s t ≡ true
   unfolding aside
@@ -121,6 +134,15 @@ module _ (a b c d : Corner) where
   unfolding straddle
   aside_neither e f = and_true (ap not e) (ap not f)
 
+not_yes : (x : Bool) → not x ≡ true → x ≡ false
+not_yes true e = sym e
+not_yes false e = refl
+
+not_no : (x : Bool) → not x ≡ false → x ≡ true
+not_no true e = refl
+not_no false e = sym e
+
+module _ (a b c d : Corner) where
   -- two edges, by their boxes and then by the sides
   abbrev over_x : Bool
   over_x = overlap a.x b.x c.x d.x
@@ -163,6 +185,7 @@ below_zero a b h = and_right (le_z (b -ℤ a) (pos 0)) ((le_z_false (pos 0) (b -
     down : (a b : ℤ) → b <ℤ a → (b -ℤ a) <ℤ pos 0
     down a b = lin (a ∷ b ∷ []) λ u v e1 e2. simp (Z·ℕ, e1, e2) (omega arith)
 
+-- an edge by the order of its ends
 module _ (a b : Corner) where
   pub north : a.x <ℤ b.x → no_length a b ≡ false
   unfolding no_length
@@ -183,6 +206,24 @@ module _ (a b : Corner) where
   pub none : a.x ≤ℤ b.x → b.x ≤ℤ a.x → a.y ≤ℤ b.y → b.y ≤ℤ a.y → no_length a b ≡ true
   unfolding no_length
   none h k l m = and_true (same_zero a.x b.x h k) (same_zero a.y b.y l m)
+
+equal_is : (a b : ℤ) → int_eq a b ≡ is_zero (b -ℤ a)
+equal_is a b = go (int_eq a b) refl
+  where
+    d : Decides (int_eq a b) (a ≡ b)
+    d = Decides-int_eq a b
+
+    go : (t : Bool) → int_eq a b ≡ t → int_eq a b ≡ is_zero (b -ℤ a)
+    go true e = let h = d.0 e in e ∙ sym (same_zero a b (≤ℤ_of_eq h) (≤ℤ_of_eq (sym h)))
+    go false e = ⊎_elim
+        (λ h. e ∙ sym (above_zero a b h))
+        (λ k. ⊎_elim (λ h. absurd (false≢true (sym e ∙ d.1 h))) (λ h. e ∙ sym (below_zero a b h)) k)
+        (tricho a b)
+
+-- equality of two corners, as it is derived
+pub same_is : (a b : Corner) → (int_eq a.x b.x && int_eq a.y b.y) ≡ no_length a b
+unfolding no_length
+same_is a b = ap₂ ◌&&◌ (equal_is a.x b.x) (equal_is a.y b.y)
 
 -- an edge of no length is on one line with every corner
 level : (a b c : Corner) → no_length a b ≡ true → D a b c ≡ pos 0
@@ -205,33 +246,36 @@ module _ (a b c : Corner) where
       or_none true = refl
       or_none false = refl
 
-  -- by the sign of D
-  pub folds_straight : sign_of (D a b c) ≡ Zero → folds (a to b) (b to c) ≡ (lt_z (ahead a b c) (pos 0) || no_length a b)
+  -- on one line or not
+  pub folds_straight : is_zero (D a b c) ≡ true → folds (a to b) (b to c) ≡ (lt_z (ahead a b c) (pos 0) || no_length a b)
   unfolding folds no_length ahead
-  folds_straight e = rw (zero_is (D a b c) ∙ ap zero_sign e) refl
+  folds_straight e = rw e refl
 
-  pub folds_bent : (s : Sign) → sign_of (D a b c) ≡ s → zero_sign s ≡ false → folds (a to b) (b to c) ≡ false
+  pub folds_bent : is_zero (D a b c) ≡ false → folds (a to b) (b to c) ≡ false
   unfolding folds no_length ahead
-  folds_bent s e f = (or_false _ _).1 (and_left _ bent, some_length (no_length a b) refl)
+  folds_bent bent = (or_false _ _).1 (and_left _ bent, some_length (no_length a b) refl)
     where
-      bent : is_zero (D a b c) ≡ false
-      bent = zero_is (D a b c) ∙ ap zero_sign e ∙ f
-
       some_length : (t : Bool) → no_length a b ≡ t → t ≡ false
       some_length true g = absurd (subst T (sym (ap is_zero (level a b c g)) ∙ bent) tt)
       some_length false g = refl
 
--- ---- boxes that are away
-pub away_x : (lx hx ly hy : ℤ) (c d : Corner) → outside lx hx c.x d.x ≡ true → away lx hx ly hy c d ≡ true
-unfolding away
-away_x lx hx ly hy c d e = (or_true _ _).1 (inl e)
+  pub folds_level : sign_of (D a b c) ≡ Equal → folds (a to b) (b to c) ≡ (lt_z (ahead a b c) (pos 0) || no_length a b)
+  folds_level e = folds_straight (zero_is (D a b c) ∙ ap is_eq e)
 
-pub away_y : (lx hx ly hy : ℤ) (c d : Corner) → outside lx hx c.x d.x ≡ false → away lx hx ly hy c d ≡ outside ly hy c.y d.y
+  pub folds_aside : (s : Ordering) → sign_of (D a b c) ≡ s → is_eq s ≡ false → folds (a to b) (b to c) ≡ false
+  folds_aside s e f = folds_bent (zero_is (D a b c) ∙ ap is_eq e ∙ f)
+
+-- ---- boxes that are away
+pub away_x : (low high c d : Corner) → outside low.x high.x c.x d.x ≡ true → away low high c d ≡ true
 unfolding away
-away_y lx hx ly hy c d e = rw e refl
+away_x low high c d e = (or_true _ _).1 (inl e)
+
+pub away_y : (low high c d : Corner) → outside low.x high.x c.x d.x ≡ false → away low high c d ≡ outside low.y high.y c.y d.y
+unfolding away
+away_y low high c d e = rw e refl
 
 -- an edge whose box is away does not meet
-pub away_apart : (a b c d : Corner) → away (smaller a.x b.x) (larger a.x b.x) (smaller a.y b.y) (larger a.y b.y) c d ≡ true → meets (a to b) (c to d) ≡ false
+pub away_apart : (a b c d : Corner) → away (lower a b) (upper a b) c d ≡ true → meets (a to b) (c to d) ≡ false
 unfolding away
 away_apart a b c d e = ⊎_elim
     (λ f. apart_in_x a b c d (sym (apart_is a.x b.x c.x d.x) ∙ f))
@@ -239,7 +283,7 @@ away_apart a b c d e = ⊎_elim
     ((or_true _ _).0 e)
 
 -- and of one that is not away the sides decide
-pub near_sides : (a b c d : Corner) → away (smaller a.x b.x) (larger a.x b.x) (smaller a.y b.y) (larger a.y b.y) c d ≡ false → meets (a to b) (c to d) ≡ straddle a b c d
+pub near_sides : (a b c d : Corner) → away (lower a b) (upper a b) c d ≡ false → meets (a to b) (c to d) ≡ straddle a b c d
 unfolding away
 near_sides a b c d e =
     let f = (or_false _ _).0 e in

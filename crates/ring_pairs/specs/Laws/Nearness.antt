@@ -7,10 +7,10 @@ use Rattle.arith.specs.Laws.Order.{abs_sub_comm}
 use Rattle.rules.specs.Rings.{Corner, origin}
 use Rattle.rules.specs.RingAnswers.{smaller, larger}
 use Rattle.rules.proofs.Laws.Checks.{lt_z_false, or_false}
-use Rattle.ring_corners.specs.Corners.{corner, pairs, Apart, Near, Accepted}
+use Rattle.ring_corners.specs.Corners.{pairs, Apart, Near, Accepted}
 use Rattle.ring_corners.specs.Laws.Sides.{near_wide}
-use Rattle.ring_boxes.specs.Boxes.{Inside}
-use Rattle.ring_boxes.specs.Laws.Spans.{smaller_both, larger_both}
+use Rattle.ring_boxes.specs.Boxes.{lower, upper, Inside}
+use Rattle.ring_boxes.specs.Laws.Spans.{ends_inside}
 use Rattle.ring_pairs.specs.Crossings.{outside, away, AllNear, RowNear}
 
 pub all_near : {l : List ℤ} → Accepted l → {i j k m : ℕ} → i < length (pairs l) → j < length (pairs l) → k < length (pairs l) → m < length (pairs l)
@@ -74,8 +74,8 @@ apart_back {a} {b} h = record { x_near = rw (abs_sub_comm b.x a.x) h.x_near; y_n
 apart_self : (w : ℕ) (a : Corner) → Apart w a a
 apart_self w a = record { x_near = none a.x w; y_near = none a.y w }
 
-module _ {w : ℕ} (a b c d : Corner) (ab : Apart w b a) (e : away (smaller a.x b.x) (larger a.x b.x) (smaller a.y b.y) (larger a.y b.y) c d ≡ false) where
-  across : (p q : Corner) → Inside (corner (smaller a.x b.x) (smaller a.y b.y)) (corner (larger a.x b.x) (larger a.y b.y)) p → Apart w c q → Apart w d q → Apart (w + w) q p
+module _ {w : ℕ} (a b c d : Corner) (ab : Apart w b a) (e : away (lower a b) (upper a b) c d ≡ false) where
+  across : (p q : Corner) → Inside (lower a b) (upper a b) p → Apart w c q → Apart w d q → Apart (w + w) q p
   unfolding away
   across p q h f g = let o = (or_false _ _).0 e in record {
     x_near = within a.x b.x c.x d.x p.x q.x w ab.x_near o.0 h.above_x h.below_x f.x_near g.x_near;
@@ -83,13 +83,13 @@ module _ {w : ℕ} (a b c d : Corner) (ab : Apart w b a) (e : away (smaller a.x 
   }
 
   from_tail : (q : Corner) → Apart w c q → Apart w d q → Apart (w + w) q a
-  from_tail q = across a q (record { above_x = (smaller_both a.x b.x).0; below_x = (larger_both a.x b.x).0; above_y = (smaller_both a.y b.y).0; below_y = (larger_both a.y b.y).0 })
+  from_tail q = across a q (ends_inside a b).0
 
   from_head : (q : Corner) → Apart w c q → Apart w d q → Apart (w + w) q b
-  from_head q = across b q (record { above_x = (smaller_both a.x b.x).1; below_x = (larger_both a.x b.x).1; above_y = (smaller_both a.y b.y).1; below_y = (larger_both a.y b.y).1 })
+  from_head q = across b q (ends_inside a b).1
 
 -- the corners of two edges, each within the span in itself, whose boxes touch
-pub touching_near : (a b c d : Corner) → Near b a → Near d c → away (smaller a.x b.x) (larger a.x b.x) (smaller a.y b.y) (larger a.y b.y) c d ≡ false → AllNear a b c d
+pub touching_near : (a b c d : Corner) → Near b a → Near d c → away (lower a b) (upper a b) c d ≡ false → AllNear a b c d
 touching_near a b c d ab cd e = record {
   b_a = near_wide ab;
   c_a = from_tail a b c d ab e c (apart_self 20_000_000 c) cd;

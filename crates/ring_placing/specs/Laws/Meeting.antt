@@ -10,12 +10,13 @@ use Rattle.rules.specs.Placing.{meets_one, any_meet}
 use Rattle.rules.specs.RingAnswers.{smaller, larger}
 use Rattle.rules.proofs.Laws.Checks.{lt_z_true, or_true}
 use Rattle.rules.proofs.Laws.Edges.{length_edges}
-use Rattle.ring_corners.specs.Corners.{corner}
+use Rattle.terms.specs.Papers.{corner_of}
 use Rattle.ring_corners.specs.Laws.Tests.{and_true}
 use Rattle.ring_boxes.specs.Boxes.{Inside, Spans}
+use Rattle.ring_boxes.specs.declared.reach.Reach.{Reach}
 use Rattle.ring_pairs.specs.Crossings.{outside, away}
 use Rattle.ring_pairs.specs.Laws.Crossings.{smaller_above, larger_below, away_apart}
-use Rattle.ring_pairs.specs.Laws.Search.{leg, close, leg_at, close_at, MetNone}
+use Rattle.ring_pairs.specs.Laws.Search.{leg, close, leg_at, close_at, Unmet}
 use Rattle.ring_pairs.specs.Laws.Runs.{both}
 
 -- ---- an edge of a list meets the test f
@@ -53,7 +54,7 @@ any_last f d (e ∷ g ∷ es) zero h n = absurd (omega arith)
 any_last f d (e ∷ g ∷ es) (suc k) h n = ap (λ (t : Bool). t || any_of f (g ∷ es)) (n 0 (omega arith)) ∙ any_last f d (g ∷ es) k (omega arith) (λ j a. n (suc j) (omega arith))
 
 -- ---- the loop over the edges of a ring but the last, and the last
-module _ {f : Edge → Bool} {r : List Corner} {last l : ℕ} (s : MetNone f r 0 last l) (count : last + 1 ≡ length r) where
+module _ {f : Edge → Bool} {r : List Corner} {last l : ℕ} (s : Unmet f r 0 last l) (count : last + 1 ≡ length r) where
   pub found : l < last → f (leg r l) ≡ true → any_of f (edges r) ≡ true
   unfolding edge
   found h e = any_hit f (origin to origin) (edges r) l (let n = length_edges r in omega arith) (ap f (leg_at r l (omega arith)) ∙ e)
@@ -78,19 +79,19 @@ outside_ring low high c d p q e a b g h = ⊎_elim
     over : (z : ℤ) → low ≤ℤ z → lt_z c low ≡ true → lt_z d low ≡ true → lt_z (larger c d) z ≡ true
     over z k s t = larger_below c d z ∙ and_true ((lt_z_true c z).1 (<ℤ-≤ℤ_trans ((lt_z_true c low).0 s) k)) ((lt_z_true d z).1 (<ℤ-≤ℤ_trans ((lt_z_true d low).0 t) k))
 
-away_ring : (lx hx ly hy : ℤ) (c d p q : Corner) → away lx hx ly hy c d ≡ true → Inside (corner lx ly) (corner hx hy) p → Inside (corner lx ly) (corner hx hy) q → meets (c to d) (p to q) ≡ false
+away_ring : (low high c d p q : Corner) → away low high c d ≡ true → Inside low high p → Inside low high q → meets (c to d) (p to q) ≡ false
 unfolding away
-away_ring lx hx ly hy c d p q e a b = away_apart c d p q (⊎_elim
-    (λ f. (or_true _ _).1 (inl (outside_ring lx hx c.x d.x p.x q.x f a.above_x a.below_x b.above_x b.below_x)))
-    (λ f. (or_true (outside (smaller c.x d.x) (larger c.x d.x) p.x q.x) _).1 (inr (outside_ring ly hy c.y d.y p.y q.y f a.above_y a.below_y b.above_y b.below_y)))
-    ((or_true (outside lx hx c.x d.x) (outside ly hy c.y d.y)).0 e))
+away_ring low high c d p q e a b = away_apart c d p q (⊎_elim
+    (λ f. (or_true _ _).1 (inl (outside_ring low.x high.x c.x d.x p.x q.x f a.above_x a.below_x b.above_x b.below_x)))
+    (λ f. (or_true (outside (smaller c.x d.x) (larger c.x d.x) p.x q.x) _).1 (inr (outside_ring low.y high.y c.y d.y p.y q.y f a.above_y a.below_y b.above_y b.below_y)))
+    ((or_true (outside low.x high.x c.x d.x) (outside low.y high.y c.y d.y)).0 e))
 
-pub unmet_ring : {s : List Corner} {last : ℕ} {lx hx ly hy : ℤ} → Spans s 0 last (corner lx ly) (corner hx hy) → last + 1 ≡ length s
-    → (c d : Corner) → away lx hx ly hy c d ≡ true → meets_one (c to d) (edges s) ≡ false
-unmet_ring {s} {last} {lx} {hx} {ly} {hy} b count c d e = one_is (c to d) (edges s) ∙ found_last none count (omega arith) ∙ no last 0 (omega arith) (omega arith)
+pub unmet_ring : {s : List Corner} {last : ℕ} {around : Reach} → Spans s 0 last around → last + 1 ≡ length s
+    → (c d : Corner) → away (corner_of around.low) (corner_of around.high) c d ≡ true → meets_one (c to d) (edges s) ≡ false
+unmet_ring {s} {last} {around} b count c d e = one_is (c to d) (edges s) ∙ found_last none count (omega arith) ∙ no last 0 (omega arith) (omega arith)
   where
     no : (i j : ℕ) → i ≤ last → j ≤ last → meets (c to d) (get_or s i origin to get_or s j origin) ≡ false
-    no i j h k = away_ring lx hx ly hy c d (get_or s i origin) (get_or s j origin) e (b.inside i (omega arith) h) (b.inside j (omega arith) k)
+    no i j h k = away_ring _ _ c d (get_or s i origin) (get_or s j origin) e (b.inside i (omega arith) h) (b.inside j (omega arith) k)
 
-    none : MetNone (meets (c to d)) s 0 last last
+    none : Unmet (meets (c to d)) s 0 last last
     none = record { low = omega arith; high = omega arith; none_met = λ j h k. no j (j + 1) (omega arith) (omega arith) }

@@ -1,16 +1,16 @@
 -- Runs of edges that add nothing to the turning number of a point. Assumes nothing.
-use Rattle.std.specs.Prelude.{◌≡◌, List, ℕ, zero, suc, ◌+◌, ◌*◌, ◌-◌, ◌/◌, ◌<◌, ◌≤◌, ℤ, pos, ◌+ℤ◌, length, get_or, ◌<ℤ◌}
+use Rattle.std.specs.Prelude.{◌≡◌, List, ℕ, zero, suc, ◌+◌, ◌-◌, ◌/◌, ◌<◌, ◌≤◌, ℤ, pos, ◌+ℤ◌, length, get_or, ◌<ℤ◌}
 use Rattle.std.proofs.Common.{sym, ◌∙◌, ap, subst, ⊎_elim, arith}
 use Rattle.std.proofs.Math.IntN.{+ℤ_idr}
 use Rattle.std.specs.Int.Signed.{<ℤ-≤ℤ_trans}
 use Rattle.arith.specs.Laws.Order.{≤ℤ_or-<ℤ, ≤ℤ-<ℤ_trans, <ℤ→≤ℤ}
 use Rattle.rules.specs.Rings.{Corner, ◌to◌, origin, turn, turning_number}
-use Rattle.ring_corners.specs.Corners.{next_of}
 use Rattle.ring_corners.specs.Sides.{rise_of, fall_of}
 use Rattle.ring_corners.specs.Laws.Flat.{next_is, next_none}
 use Rattle.ring_corners.specs.Laws.Sides.{sign_negative, below_both, turn_rises, turn_falls, turn_south, turn_north}
 use Rattle.ring_turning.specs.Laws.Turning.{Turning, turning_step, turning_end, run}
-use Rattle.ring_boxes.specs.Boxes.{Inside, RunEnd, Boxed}
+use Rattle.ring_boxes.specs.Boxes.{Inside, Holds, nowhere, RunEnd, Boxed}
+use Rattle.ring_boxes.specs.declared.reach.Reach.{Reach}
 use Rattle.ring_placing.specs.Beside.{Off, Beside}
 
 -- ---- an edge
@@ -66,14 +66,14 @@ pass {r} {p} {sum} {k} (suc n) t h f =
 
 module _ {r : List Corner} {p : Corner} {sum : ℤ} {k last : ℕ} (t : Turning r p sum k) (count : last + 1 ≡ length r) where
   -- a run that is beside p is passed to its end
-  pub turning_pass : {lows highs : List Corner} {end : ℕ} → k < last → Boxed r lows highs → Beside lows highs (k / 16) p → RunEnd (k / 16) last end → Turning r p sum end
-  turning_pass {lows} {highs} {end} h b o e = subst (Turning r p sum) (total k end (e.whole k (omega arith) (omega arith))) (pass (end - k) t (let g = e.in_reach in omega arith) none)
+  pub turning_pass : {boxes : List Reach} {end : ℕ} → k < last → Boxed r boxes → Beside boxes (k / 16) p → RunEnd (k / 16) last end → Turning r p sum end
+  turning_pass {boxes} {end} h b o e = subst (Turning r p sum) (total k end (e.whole k (omega arith) (omega arith))) (pass (end - k) t (let g = e.in_reach in omega arith) none)
     where
       total : (k end : ℕ) → k ≤ end → k + (end - k) ≡ end
       total k end h = omega arith
 
-      inside : (j : ℕ) → k ≤ j → j ≤ end → Inside (get_or lows (k / 16) origin) (get_or highs (k / 16) origin) (get_or r j origin)
-      inside j a c = let g = e.in_reach in let i = e.in_run in b.boxes (k / 16) j o.has_box (omega arith) (omega arith) (omega arith) (omega arith)
+      inside : (j : ℕ) → k ≤ j → j ≤ end → Holds (get_or boxes (k / 16) nowhere) (get_or r j origin)
+      inside j a c = let g = e.in_reach in let i = e.in_run in b.inside (k / 16) j o.has_box (omega arith) (omega arith) (omega arith) (omega arith)
 
       none : (j : ℕ) → k ≤ j → j < k + (end - k) → turn p (get_or r j origin to get_or r (j + 1) origin) ≡ pos 0
       none j a c = off_adds_none o.off (inside j a (omega arith)) (inside (j + 1) (omega arith) (omega arith))

@@ -12,7 +12,8 @@ use Rattle.rules.specs.RingAnswers.{looked_through, not_crossed}
 use Rattle.rules.specs.Crossing.{first_with, first_of, crossed}
 use Rattle.rules.proofs.Laws.Edges.{length_edges}
 use Rattle.rules.proofs.Laws.Looked.{pair_of}
-use Rattle.ring_pairs.specs.Crossings.{pair_at, pair_after}
+use Rattle.rules.proofs.Laws.Pairs.{crossed_some}
+use Rattle.ring_pairs.specs.Crossings.{pair_after}
 use Rattle.rings.specs.Found.{found_pair}
 
 -- the edges before edge k make no pair
@@ -43,21 +44,22 @@ module _ {r : List Corner} {k : ℕ} (s : Searched r k) where
   unfolding first_of either pair_after edge
   first h = s.left ∙ ap (first_of (length r) k) (drop-cons (edges r) k (origin to origin) (let e = length_edges r in omega arith))
 
-  module _ (l : ℕ) (h : k < length r) (e : pair_at (length r) k l ≡ pair_after r k) where
-    -- an edge l of the ring makes the first pair with edge k
-    pub searched_hit : l < length r → length r ≤ 1024 → found_pair (1024 * k + l) ≡ crossed r
-    unfolding either pair_at
-    searched_hit g m =
-        packed k l (omega arith) (omega arith)
-        ∙ sym (first h ∙ ap either (sym e ∙ ap (λ (t : Bool). elim t [ true ↦ some (pair_of k l) | false ↦ none ]) (lt-ltb l (length r) g)))
+  module _ (h : k < length r) where
+    -- edge l makes the first pair with edge k
+    module _ (l : ℕ) (e : some (pair_of k l) ≡ pair_after r k) where
+      found : crossed r ≡ some (pair_of k l)
+      unfolding either
+      found = first h ∙ ap either (sym e)
 
-    pub searched_miss : length r ≤ l → Searched r (k + 1)
-    unfolding either pair_at
-    searched_miss g = record {
-      left = first h
-          ∙ ap either (sym e ∙ ap (λ (t : Bool). elim t [ true ↦ some (record { low = k; high = l }) | false ↦ none ]) (le-ltb l (length r) g))
-          ∙ ap (λ (i : ℕ). first_of (length r) i (drop i (edges r))) (sym (add-one k));
-    }
+      pub searched_inside : l < length r
+      searched_inside = (crossed_some r (pair_of k l) found).inside
+
+      pub searched_hit : length r ≤ 1024 → found_pair (1024 * k + l) ≡ crossed r
+      searched_hit m = let i = searched_inside in packed k l (omega arith) (omega arith) ∙ sym found
+
+    pub searched_miss : none ≡ pair_after r k → Searched r (k + 1)
+    unfolding either
+    searched_miss e = record { left = first h ∙ ap either (sym e) ∙ ap (λ (i : ℕ). first_of (length r) i (drop i (edges r))) (sym (add-one k)) }
 
   -- the last edge makes no pair with a later one
   pub searched_end : k + 1 ≡ length r → found_pair 1_048_576 ≡ crossed r

@@ -1,25 +1,26 @@
 -- Demand 3 holds of the calls, for every list that the checks accept. Assumes nothing.
-use Rattle.std.specs.Prelude.{◌≡◌, List, reverse, ℕ, ◌<◌, ◌≤◌, ℤ, length}
+use Rattle.std.specs.Prelude.{◌≡◌, List, reverse, ℕ, ◌<◌, ◌≤◌, ℤ, length, Result, Ok, Err}
 use Rattle.std.proofs.Common.{sym, ◌∙◌, ap, arith}
 use Rattle.rules.specs.Refusals.{Answer, answered, ◌>>=◌}
 use Rattle.rules.specs.Rings.{Corner, area2, turning_number, inner, outer}
 use Rattle.rules.specs.RingAnswers.{ring_checks, area_answer, turning_answer, numbers_of}
 use Rattle.rules.proofs.Laws.Demand.{demand}
 use Rattle.rings.specs.Answers.{whole_paper, AreaCall, TurningCall}
-use Rattle.rings.specs.declared.WholeAnswer.{WholeAnswer}
+use Rattle.terms.specs.declared.refusals.Refusal.{Refusal}
+use Rattle.ring_checks.proofs.Laws.Steps.{not_answered}
 use Rattle.rings.proofs.Laws.Parts.{part_passes, at_most, inner_within, outer_within, inner_count, outer_count, reverse_within, reverse_count}
 use Rattle.rings.specs.Demand.{Calls}
 
 -- an answer that is the paper's number is that number
-whole_of : (w : WholeAnswer) (z : ℤ) → whole_paper w ≡ answered z → w ≡ WholeAnswer.Is z
-whole_of (WholeAnswer.Is y) z e = cc e
-whole_of (WholeAnswer.Refused n) z e = absurd (let x : ◌≡◌ {A = ℕ} 0 1 = cc e in omega arith)
+whole_of : (w : Result ℤ Refusal) (z : ℤ) → whole_paper w ≡ answered z → w ≡ Ok z
+whole_of (Ok y) z e = cc e
+whole_of (Err r) z e = absurd (not_answered r z e)
 
-turning_is : (l : List ℤ) (r : List Corner) → ring_checks l ≡ answered r → (p : Corner) (w : WholeAnswer) → TurningCall l p w → w ≡ WholeAnswer.Is (turning_number r p)
+turning_is : (l : List ℤ) (r : List Corner) → ring_checks l ≡ answered r → (p : Corner) (w : Result ℤ Refusal) → TurningCall l p w → w ≡ Ok (turning_number r p)
 unfolding turning_answer
 turning_is l r e p w h = whole_of w (turning_number r p) (h ∙ ap (λ (a : Answer (List Corner)). a >>= λ t. answered (turning_number t p)) e)
 
-area_is : (l : List ℤ) (r : List Corner) → ring_checks l ≡ answered r → (w : WholeAnswer) → AreaCall l w → w ≡ WholeAnswer.Is (area2 r)
+area_is : (l : List ℤ) (r : List Corner) → ring_checks l ≡ answered r → (w : Result ℤ Refusal) → AreaCall l w → w ≡ Ok (area2 r)
 unfolding area_answer
 area_is l r e w h = whole_of w (area2 r) (h ∙ ap (λ (a : Answer (List Corner)). a >>= λ t. answered (area2 t)) e)
 
@@ -47,14 +48,14 @@ calls l r e = record {
   reverse_turning = λ p w v a b. record {
     whole = turning_number r p;
     whole_is = turning_is l r e p w a;
-    reversed_is = turning_is (numbers_of (reverse r)) (reverse r) back p v b ∙ ap WholeAnswer.Is (demand.reverse_turning r p);
+    reversed_is = turning_is (numbers_of (reverse r)) (reverse r) back p v b ∙ ap Ok (demand.reverse_turning r p);
   };
   reverse_area = λ w v a b. record {
     whole = area2 r;
     whole_is = area_is l r e w a;
-    reversed_is = area_is (numbers_of (reverse r)) (reverse r) back v b ∙ ap WholeAnswer.Is (demand.reverse_area r);
+    reversed_is = area_is (numbers_of (reverse r)) (reverse r) back v b ∙ ap Ok (demand.reverse_area r);
   };
-  line_turning = λ p q h w v a b. turning_is l r e p w a ∙ ap WholeAnswer.Is (demand.line_turning r p q h) ∙ sym (turning_is l r e q v b);
+  line_turning = λ p q h w v a b. turning_is l r e p w a ∙ ap Ok (demand.line_turning r p q h) ∙ sym (turning_is l r e q v b);
 }
   where
     few : (3 ≤ length r) × (length r ≤ 1024)

@@ -1,8 +1,8 @@
 -- A ring made of corners of an accepted ring is accepted, if its count is: its parts when it is cut, and the ring reversed. Assumes nothing.
-use Rattle.std.specs.Prelude.{◌≡◌, refl, Bool, true, false, ◌⊎◌, ℕ, zero, suc, ◌+◌, ◌<◌, ◌≤◌, ℤ, pos, ◌-ℤ◌, length, take, drop, ◌≤ℤ◌}
-use Rattle.std.proofs.Common.{sym, ◌∙◌, ap, subst, inl, inr, ⊎_elim, arith, take-append-drop, length-take, length-drop, length-append}
+use Rattle.std.specs.Prelude.{◌≡◌, refl, Bool, true, false, ℕ, suc, ◌<◌, ◌≤◌, ℤ, pos, length, take, drop, ◌≤ℤ◌}
+use Rattle.std.proofs.Common.{◌∙◌, ap, subst, ⊎_elim, arith, take-append-drop, length-take, length-drop, length-append}
 use mathlib.Core.List.Memᴰ
-use mathlib.Core.List.{List, [], ◌∷◌, ◌++◌, map, reverse, reverse-cons, Memᴰ}
+use mathlib.Core.List.{List, [], ◌∷◌, map, reverse, reverse-cons, Memᴰ}
 use Rattle.rules.specs.Refusals.{Answer, answered, refused, crossed_at, ◌>>=◌, ◌>>◌, ◌if◌}
 use Rattle.rules.specs.Rings.{Corner, inner, outer}
 use Rattle.rules.specs.RingAnswers.{corners, count_bad, any_bad, span_bad, span, ring_checks, numbers_of}

@@ -1,10 +1,9 @@
 -- Border and turning number in one pass: what the loop keeps. Assumes nothing.
-use Rattle.std.specs.Prelude.{◌≡◌, refl, Bool, true, false, ◌||◌, List, [], ◌∷◌, ℕ, zero, suc, ◌+◌, ◌<◌, ◌≤◌, T, ℤ, pos, negsuc, ◌+ℤ◌, length, take, get_or, ◌<ℤ◌, ◌≤ℤ◌}
-use Rattle.std.proofs.Common.{sym, ◌∙◌, ap, ap₂, subst, add-one, arith, take_all, SFits}
-use Rattle.std.proofs.Math.Dec.{leb-zero, leb-suc-zero, leb-suc-suc}
+use Rattle.std.specs.Prelude.{◌≡◌, refl, Bool, true, false, ◌||◌, List, [], ◌∷◌, ℕ, zero, suc, ◌+◌, ◌<◌, ◌≤◌, ℤ, pos, ◌+ℤ◌, length, take, get_or, Option, Some, None, ◌<ℤ◌, ◌≤ℤ◌}
+use Rattle.std.proofs.Common.{sym, ◌∙◌, ap, subst, add-one, arith, take_all, SFits}
 use Rattle.std.specs.Int.Signed.{le_z}
 use Rattle.std.specs.Int.{w64}
-use Rattle.rules.specs.Rings.{Corner, Edge, ◌to◌, origin, edges, turn, turning_number, is_zero, on, border}
+use Rattle.rules.specs.Rings.{Corner, Edge, ◌to◌, origin, edges, turn, turning_number, on, border}
 use Rattle.rules.specs.RingAnswers.{Nozzle, open_nozzle, border_nozzle, shut_nozzle, nozzle}
 use Rattle.rules.proofs.Laws.Checks.{or_false}
 use Rattle.rules.proofs.Laws.Edges.{length_edges}
@@ -13,24 +12,22 @@ use Rattle.ring_turning.specs.Touching.{touch_of}
 use Rattle.ring_corners.specs.Laws.Sides.{le_z_true, le_z_false}
 use Rattle.ring_corners.specs.Laws.Tests.{and_true, and_left, and_right}
 use Rattle.ring_turning.specs.Laws.Turning.{Turning, run, run_at, turning_start, turning_step, turning_end, turning_fits}
-use Rattle.ring_turning.specs.declared.touching.Touch.{Touch}
-use Rattle.ring_turning.specs.declared.touching.Touch.TheVariants.{OnEdge, Adds}
 
 -- ---- what an edge told
-told_on : (p : Corner) (e : Edge) → touch_of p e ≡ OnEdge → on p e ≡ true
+told_on : (p : Corner) (e : Edge) → touch_of p e ≡ None → on p e ≡ true
 unfolding touch_of
 told_on p e = go (on p e)
   where
-    go : (b : Bool) → ◌≡◌ {A = Touch} (elim b [ true ↦ OnEdge | false ↦ Adds (turn p e) ]) OnEdge → b ≡ true
+    go : (b : Bool) → ◌≡◌ {A = Option ℤ} (elim b [ true ↦ None | false ↦ Some (turn p e) ]) None → b ≡ true
     go true h = refl
-    go false h = absurd (let z : ◌≡◌ {A = ℕ} 0 1 = cc h in omega arith)
+    go false h = cc h
 
-told_adds : (p : Corner) (e : Edge) (z : ℤ) → touch_of p e ≡ Adds z → (on p e ≡ false) × (z ≡ turn p e)
+told_adds : (p : Corner) (e : Edge) (z : ℤ) → touch_of p e ≡ Some z → (on p e ≡ false) × (z ≡ turn p e)
 unfolding touch_of
 told_adds p e z = go (on p e)
   where
-    go : (b : Bool) → ◌≡◌ {A = Touch} (elim b [ true ↦ OnEdge | false ↦ Adds (turn p e) ]) (Adds z) → (b ≡ false) × (z ≡ turn p e)
-    go true h = absurd (let z : ◌≡◌ {A = ℕ} 0 1 = cc h in omega arith)
+    go : (b : Bool) → ◌≡◌ {A = Option ℤ} (elim b [ true ↦ None | false ↦ Some (turn p e) ]) (Some z) → (b ≡ false) × (z ≡ turn p e)
+    go true h = absurd (cc h)
     go false h = (refl, cc h)
 
 -- ---- border, one edge more
@@ -74,10 +71,10 @@ module _ {r : List Corner} {p : Corner} {sum : ℤ} {i : ℕ} (s : Passing r p s
     within : i < length (edges r)
     within = let n = length_edges r in omega arith
 
-    pub hit : touch_of p (run r i) ≡ OnEdge → border_nozzle ≡ nozzle r p
+    pub hit : touch_of p (run r i) ≡ None → border_nozzle ≡ nozzle r p
     hit t = hit_nozzle r p (border_hit (edges r) p (origin to origin) i within (ap (on p) (run_at r i h) ∙ told_on p (run r i) t))
 
-    pub passing_step : (z : ℤ) → touch_of p (run r i) ≡ Adds z → Passing r p (sum +ℤ z) (i + 1)
+    pub passing_step : (z : ℤ) → touch_of p (run r i) ≡ Some z → Passing r p (sum +ℤ z) (i + 1)
     passing_step z t =
         let a = told_adds p (run r i) z t in
         record {
@@ -108,5 +105,5 @@ unfolding settled_as
 shut_at_zero z h k = ap shutting (and_true ((le_z_true z (pos 0)).1 h) ((le_z_true (pos 0) z).1 k))
 
 -- the sum stays small
-pub passing_fits : {r : List Corner} {p : Corner} {sum : ℤ} {i : ℕ} → Passing r p sum i → length r ≤ 1024 → (e : Edge) (z : ℤ) → touch_of p e ≡ Adds z → SFits w64 (sum +ℤ z)
+pub passing_fits : {r : List Corner} {p : Corner} {sum : ℤ} {i : ℕ} → Passing r p sum i → length r ≤ 1024 → (e : Edge) (z : ℤ) → touch_of p e ≡ Some z → SFits w64 (sum +ℤ z)
 passing_fits {r} {p} {sum} {i} s m e z t = rw (told_adds p e z t).1 (turning_fits s.turning m e)

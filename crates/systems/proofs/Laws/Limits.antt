@@ -1,15 +1,15 @@
 -- The tests of refusals 3 and 4 as the code makes them, against the paper's. Assumes nothing.
-use Rattle.std.specs.Prelude.{Bool, true, false, ◌≡◌, refl, List, [], ◌∷◌, ℕ, ◌*◌, ◌^◌, ◌≤◌, ◌<◌, ℤ, pos, neg_ℤ, nat_abs, ◌+ℤ◌, ◌-ℤ◌, ◌*ℤ◌, ◌≤ℤ◌, ◌<ℤ◌}
+use Rattle.std.specs.Prelude.{Bool, true, false, ◌≡◌, refl, [], ◌∷◌, ℕ, ◌*◌, ◌^◌, ℤ, pos, neg_ℤ, nat_abs, ◌+ℤ◌, ◌-ℤ◌, ◌*ℤ◌, ◌≤ℤ◌}
 use Rattle.std.proofs.Math.Bool.{◌||◌}
 use Rattle.std.proofs.Common.{sym, ◌∙◌, ap, arith}
 use Rattle.std.proofs.Math.Path.{ap₂}
 use Rattle.std.specs.Int.Signed.{lt_z}
-use Rattle.arith.specs.Laws.Diff.{◌⊖◌, Z·ℕ, lin}
+use Rattle.arith.specs.Laws.Diff.{Z·ℕ, lin}
 use Rattle.arith.specs.Laws.Ring.{ring, Z·ring, by_ring, ev_num, ev_nneg}
 use Rattle.rules.specs.Systems.{System}
 use Rattle.rules.specs.Scaled.{one}
 use Rattle.rules.specs.Points.{above, longitude_bad, plane_bad, metres_times_m0}
-use Rattle.rules.proofs.Laws.Checks.{lt_z_true, lt_z_false, or_true, or_false}
+use Rattle.rules.proofs.Laws.Checks.{lt_z_false, or_false}
 use Rattle.systems.specs.Zones.{beyond, Stands}
 use Rattle.systems.specs.declared.Zone.{Zone}
 

@@ -1,15 +1,15 @@
 -- A row's rule by one computed test: `row-right z s` computes to true only where z stands for s and is of size. Assumes nothing.
-use Rattle.std.specs.Prelude.{Bool, true, false, ◌&&◌, List, [], ◌∷◌, ◌≡◌, refl, ℕ, ◌*◌, ◌^◌, ◌≤◌, T, leb, ℤ, pos, nat_abs, ◌*ℤ◌, ◌≤ℤ◌}
+use Rattle.std.specs.Prelude.{Ok, Bool, true, ◌&&◌, List, [], ◌∷◌, ◌≡◌, refl, ℕ, ◌^◌, T, leb, ℤ, pos, nat_abs, ◌*ℤ◌}
 use Rattle.std.proofs.Common.{leb→le}
 use Rattle.std.specs.Int.Signed.{le_z}
 use Rattle.arith.specs.Laws.Order.{≤ℤ_antisym}
 use Rattle.rules.specs.Units.{millimetres_in_metre}
-use Rattle.rules.specs.Refusals.{Answer, answered}
+use Rattle.rules.specs.Refusals.{answered}
 use Rattle.rules.specs.Systems.{System, Ellipsoid, GRS_80, Krasovsky, same_ellipsoid, system}
 use Rattle.rules.proofs.Laws.Meeting.{T_and}
-use Rattle.systems.specs.Zones.{Stands, Sized, Found, ellipsoid_of}
+use Rattle.systems.specs.Zones.{Stands, Sized, Found}
+use Rattle.terms.specs.Papers.{ellipsoid_of}
 use Rattle.systems.specs.declared.Zone.{Zone}
-use Rattle.systems.specs.declared.ZoneAnswer.TheVariants.{Known}
 
 abbrev pub same : ℤ → ℤ → Bool
 same a b = le_z a b && le_z b a
@@ -38,7 +38,7 @@ each (b ∷ bs) t = let u = T_and b (met bs) t in (u.0, each bs u.1)
 
 abbrev pub stands_tests : Zone → System → List Bool
 stands_tests z s =
-    same_ellipsoid s.ellipsoid (ellipsoid_of z.krasovsky)
+    same_ellipsoid s.ellipsoid (ellipsoid_of z.ellipsoid)
     ∷ same s.L0 z.meridian
     ∷ same (pos s.half_width) z.reach
     ∷ same s.m0 (z.millionths *ℤ pos (10 ^ 18))
@@ -79,5 +79,5 @@ sized z (l, (h, (p, (m, (q, (x, (y, u))))))) = record {
 }
 
 -- a row by its tests
-pub row : (k : ℕ) (z : Zone) {s : System} → system k ≡ answered s → T (met (stands_tests z s)) → T (met (sized_tests z)) → Found k (Known z)
+pub row : (k : ℕ) (z : Zone) {s : System} → system k ≡ answered s → T (met (stands_tests z s)) → T (met (sized_tests z)) → Found k (Ok z)
 row k z {s} e t u = (s, e, stands z s (each (stands_tests z s) t), sized z (each (sized_tests z) u))

@@ -8,6 +8,10 @@ use Rattle.std.specs.Prelude.{ℕ, ◌<◌, ◌≤◌, ℤ, length}
 use Rattle.rules.specs.Refusals.{CrossedPair, Answer, answered, refused, crossed_at, ◌>>=◌, ◌>>◌}
 use Rattle.rules.specs.Rings.{Corner, edge_pairs}
 use Rattle.rules.specs.RingAnswers.{ring_checks, not_crossed, crossing_answer, nozzle, nozzle_answer}
+use Rattle.terms.specs.declared.refusals.Refusal.{Refusal}
+use Rattle.terms.specs.declared.refusals.Refusal.TheVariants as refusal-case
+use Rattle.terms.specs.Papers.{refusal_paper}
+use Rattle.terminal.specs.Lent.{Held}
 -- a number below a million as an i64
 pub use Rattle.terminal_fields.proofs.Laws.Nine.{small_is}
 use Rattle.rules.proofs.Laws.Looked.{half, few, place_most}
@@ -61,3 +65,21 @@ module _ (numbers : List ℤ) where
         go (answered r) f = after r (not_crossed r) f
         go (refused n) f = absurd (let z : ◌≡◌ {A = ℕ} 0 1 = cc in omega arith)
         go (crossed_at other) f = cc
+
+-- what a refusal writes on 9 fits, where it is the answer's and the numbers of that are small
+pub held : {A : Type 0} (r : Refusal) (a : Answer A) → ((pair : CrossedPair) → a ≡ crossed_at pair → NineNumbers pair) → refusal_paper r ≡ a → Held r
+held refusal-case.CodeUnknown a small e = tt
+held refusal-case.LatitudeOutside a small e = tt
+held refusal-case.LongitudeOutside a small e = tt
+held refusal-case.PlaneOutside a small e = tt
+held refusal-case.EllipsoidsDiffer a small e = tt
+held refusal-case.CornerCount a small e = tt
+held refusal-case.CornerNumber a small e = tt
+held refusal-case.SpanTooLarge a small e = tt
+held (refusal-case.RingCrossed pair) a small e = let s = small _ (sym e) in (s.low, s.high, s.looked_at)
+held refusal-case.KindUnknown a small e = tt
+held refusal-case.BodyCutOff a small e = tt
+held refusal-case.OutOfPlace a small e = tt
+held refusal-case.OutputTooShort a small e = tt
+held refusal-case.BadlyPlaced a small e = tt
+held refusal-case.TooManyRings a small e = tt

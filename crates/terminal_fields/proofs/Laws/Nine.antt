@@ -8,7 +8,7 @@ use Rattle.std.specs.Int.{w64}
 use Rattle.rules.specs.Refusals.{Answer, answered, refused, CrossedPair, crossed_at, passed, ◌>>=◌, ◌>>◌, ◌if◌, in_ring, badly_placed, corner_count}
 use Rattle.rules.specs.Rings.{Corner, EdgePair}
 use Rattle.rules.specs.Crossing.{crossed}
-use Rattle.rules.specs.RingAnswers.{ring_checks, looked_through, not_crossed}
+use Rattle.rules.specs.RingAnswers.{looked_through, not_crossed}
 use Rattle.rules.specs.Fields.{Field, field_nozzle}
 use Rattle.rules.specs.Placing.{misplaced}
 use Rattle.rules.specs.FieldAnswers.{alone, with_ring, inner_checks, placed, outer_accepted, inner_accepted, rings_accepted, uneven, cut, field_accepted, accept_answer, field_nozzle_answer}

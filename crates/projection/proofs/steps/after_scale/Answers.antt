@@ -1,7 +1,7 @@
 -- `projection::steps::after_scale` meets its contract: the shortfall is what m0 falls short of 1 by, and the part is rounded with it. Assumes nothing.
 use mir.Syntax.{w64}
 use mir.Facts.{to_z-of_z}
-use Rattle.std.proofs.Common.{◌≡◌, ap, ◌∙◌, ℕ, ◌-◌, ◌*◌, ◌^◌, ◌≤◌, leb→le, ℤ, pos, negsuc, nat_abs, arith}
+use Rattle.std.proofs.Common.{ap, ◌∙◌, ℕ, ◌-◌, ◌*◌, ◌^◌, ◌≤◌, ℤ, nat_abs, arith}
 use Rattle.rules.specs.Polynomial.{double_unit}
 use Rattle.double.specs.Value.{value}
 use Rattle.metres.specs.Millimetres.{in_millimetres}

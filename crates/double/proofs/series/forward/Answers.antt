@@ -1,0 +1,17 @@
+-- `double::series::forward`: each literal is the double nearest to its coefficient of a0 .. a6, by computation. Assumes nothing.
+use Rattle.std.proofs.Common.{◌≡◌, sym, subst}
+use lib.Ieee.{neg, of_bits, round}
+use Rattle.rules.specs.Scaled.{unit}
+use Rattle.rules.specs.Systems.{constants, a_coefficients}
+use Rattle.terms.specs.Papers.{ellipsoid_of}
+use Rattle.double.specs.Complex.{horner}
+use Rattle.double.specs.Exact.{doubles, nearest_double}
+use Rattle.double.proofs.series.forward.Goals as goal
+
+pub returns-in-Grs80 : goal.returns-in-Grs80
+unfolding of_bits neg doubles nearest_double round constants a_coefficients
+returns-in-Grs80 c = subst (λ e. c.polynomial.result ≡ horner (doubles unit (a_coefficients (constants (ellipsoid_of e)))) c.args.z) (sym c.in-Grs80.is) c.polynomial.ensures
+
+pub returns-in-Krasovsky : goal.returns-in-Krasovsky
+unfolding of_bits neg doubles nearest_double round constants a_coefficients
+returns-in-Krasovsky c = subst (λ e. c.polynomial-in-Krasovsky.result ≡ horner (doubles unit (a_coefficients (constants (ellipsoid_of e)))) c.args.z) (sym c.in-Krasovsky.is) c.polynomial-in-Krasovsky.ensures

@@ -1,0 +1,11 @@
+-- `job_lines::line::refusal_line` meets its contract. Assumes nothing.
+use native.Mathlib.Omega.{arith}
+use Rattle.job_lines.proofs.Printing.{none, text_after, number_after, spoken}
+use Rattle.job_lines.proofs.line.refusal_line.Goals as goal
+
+pub returns : goal.returns
+returns c =
+    rw (← c.number.ensures)
+    (spoken (omega arith)
+    (text_after (number_after (text_after (number_after (text_after (none c.empty.ensures.0 c.empty.ensures.1)
+    c.with.ensures) c.with_number.ensures) c.with-2.ensures) c.with_number-2.ensures) c.with-3.ensures))
