@@ -338,6 +338,10 @@ pub record Turns (run₀ : Run) (chunk out₀ out : List ℕ) (j : Job) (p : Pas
 no_truth : {A : Type 0} → false ≡ true → A
 no_truth e = absurd (let z : ◌≡◌ {A = ℕ} 0 1 = cc in omega arith)
 
+-- the length of an array of structs, from that of their values
+pub unmapped : {A B : Type 0} (f : A → B) (l : List A) {n : ℕ} → length (map f l) ≡ n → length l ≡ n
+unmapped f l e = sym (length-map l f) ∙ e
+
 -- no record makes the corners more or fewer
 left_long : (s : rules.Answer Step) (i : records.Record) (j : Job) → Full j → Full (left s i j)
 left_long (rules.answered d) (record_case.Begin c) j e = record { corners_long = e.corners_long; counts_long = e.counts_long }

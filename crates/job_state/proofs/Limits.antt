@@ -124,3 +124,7 @@ module _ (cs : List code.Corner) (start n : ℕ) (c : code.Corner) where
   pub rings_stay : ring_of start (set cs (start + n) c) ≡ ring_of start cs
   unfolding ring_of
   rings_stay = ap (map corner_of) (take-set-le start cs (start + n) c (omega arith))
+
+-- the length of an array of structs, from that of their values
+pub unmapped : {A B : Type 0} (f : A → B) (l : List A) {n : ℕ} → length (map f l) ≡ n → length l ≡ n
+unmapped f l e = sym (length-map l f) ∙ e

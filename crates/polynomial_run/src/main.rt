@@ -8,9 +8,9 @@ ghost use Rattle.double.specs.Value.{Number};
 
 use double::{Pair, series};
 use std::io;
-use std::io::Read;
+use std::io::{ErrorKind, Read};
 use terms::Ellipsoid;
-use vectors::{nth_word, read_record};
+use vectors::nth_word;
 
 // a - 2^50, for an a below 2^51; 0 for any other.
 fn centred(a: u64) -> i64
@@ -149,11 +149,21 @@ impl Tally {
     }
 }
 
+// The next record, or `None` where the input ends before it does. By read_exact, which goes on after an interrupted read.
+fn next_record<R: Read>(input: &mut R) -> io::Result<Option<[u8; 40]>> {
+    let mut record = [0u8; 40];
+    match input.read_exact(&mut record) {
+        Ok(()) => Ok(Some(record)),
+        Err(e) if e.kind() == ErrorKind::UnexpectedEof => Ok(None),
+        Err(e) => Err(e),
+    }
+}
+
 // Counts each record for the table that it names by its number, and passes by those that name none.
 fn run<R: Read>(input: &mut R, tallies: &mut [Tally; 7]) -> io::Result<()> {
     // A count, because every loop has to end; no input of the gate is so long.
     for _ in 0..1000000u64 {
-        let Some(record) = read_record::<40, R>(input)? else {
+        let Some(record) = next_record(input)? else {
             break;
         };
         if let Some(tally) = tallies.get_mut(nth_word(&record, 0) as usize) {

@@ -1,13 +1,16 @@
--- A part of at most 8,000,001 m fits the arithmetic of millimetres, and m0 in millionths. Assumes nothing.
+-- A part of at most 8,000,001 m fits the arithmetic of millimetres; m0 in millionths, and what it is short of 1. Assumes nothing.
 use mathlib.Core.Path.{◌≡◌}
-use Prim.Native.Nat.{ℕ, ◌+◌, ◌*◌, ◌^◌, ◌≤◌, ◌<◌}
+use Prim.Native.Nat.{ℕ, ◌+◌, ◌-◌, ◌*◌, ◌^◌, ◌≤◌, ◌<◌}
 use native.Mathlib.Nat.{div-mul-le_self, le_trans, mul-le-mul_right, le_of_mul-le-mul_right}
 use native.Mathlib.Omega.{arith}
 use lib.Dec.{lit<}
-use lib.IntN.{ℤ, nat_abs}
+use lib.IntN.{ℤ, pos, negsuc, nat_abs, ◌-ℤ◌}
+use lib.Signed.{◌≤ℤ◌}
 use mir.Syntax.{w64}
 use mir.Val.{to_z, of_z}
+use Rattle.arith.specs.Laws.Diff.{Z·ℕ}
 use Rattle.arith.specs.Laws.Machine.{v_in}
+use Rattle.arith.specs.Laws.Order.{≤ℤ_trans}
 use Rattle.rules.specs.Polynomial.{double_unit}
 use Rattle.double.proofs.Laws.Operations.{double_unit_pos}
 use Rattle.metres.specs.Millimetres.{Fits, truncated}
@@ -38,6 +41,16 @@ part_fits v short h s =
     less : (x s : ℕ) → x ≤ 8000001 * 2 ^ 20 → s ≤ 1000 → x * s + 1000 * 2 ^ 20 < 2 ^ 63
     less x s h g = let a = mul-le-mul_right s h in omega arith
 
--- m0's millionths, as they are passed on
+pub short_of : (m : ℤ) → pos 0 ≤ℤ m → nat_abs m ≤ 1000000 → pos 1000000 -ℤ m ≡ pos (1000000 - nat_abs m)
+short_of (pos k) p h = go k (1000000 - k) (omega arith)
+  where
+    go : (k r : ℕ) → k + r ≡ 1000000 → pos 1000000 -ℤ pos k ≡ pos r
+    go k r e = simp Z·ℕ (omega arith)
+short_of (negsuc k) p h = absurd p.le
+
+-- m0's millionths, as they are passed on, and their range
 pub millionths_given : (z : Zone) → Sized z → to_z w64 (of_z w64 z.millionths) ≡ z.millionths
 millionths_given z h = (v_in w64 z.millionths h.millionths tt).is
+
+pub millionths_positive : (z : Zone) → Sized z → pos 0 ≤ℤ z.millionths
+millionths_positive z h = ≤ℤ_trans (record { le = tt }) h.millionths_positive

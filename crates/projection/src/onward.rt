@@ -35,7 +35,7 @@ pub fn corner_of(zone: Zone, west: bool, p: Pair) -> Corner
     let north = steps::after_scale(zone, p.re);
     let east = steps::after_scale(zone, p.im);
     Corner {
-        x: zone.north + north,
+        x: beside(zone.north, false, north),
         y: beside(zone.east, west, east),
     }
 }
@@ -108,6 +108,8 @@ pub fn point_answer(zone: Zone, at: Located, p: Pair, h: Pair) -> Point
 }
 
 // X, Y, scale and convergence of a point that is taken.
+// A function of its own when it runs too: within `forward` a refused call would set aside the registers that only a taken point needs, and take up to twice as long.
+#[inline(never)]
 pub fn point_at(zone: Zone, b: i64, l: i64) -> Point
     requires { Taken zone b l }
     ensures { (s : System) → Stands zone s → point_of result ≡ worked_point s b (l -ℤ s.L0) }

@@ -17,6 +17,10 @@ outside low high c d = (lt_z high c && lt_z high d) || (lt_z c low && lt_z d low
 unfoldable pub away : Corner → Corner → Corner → Corner → Bool
 away low high c d = outside low.x high.x c.x d.x || outside low.y high.y c.y d.y
 
+-- corner j of one list and the corner `shift` numbers on of another
+abbrev pub pair_away : Corner → Corner → List Corner → List Corner → ℕ → ℕ → Bool
+pair_away low high first second shift j = away low high (get_or first j origin) (get_or second (j + shift) origin)
+
 -- the edge from corner j to the next, and run m
 abbrev pub leg_away : Corner → Corner → List Corner → ℕ → Bool
 leg_away low high r j = away low high (get_or r j origin) (get_or r (j + 1) origin)

@@ -13,7 +13,7 @@ use terms::Corner;
 // Whether c and d lie both above high, or both below low. By the lesser and the greater of them, which are found without a jump: with tests of c and of d, each by
 // itself, a field of 1,024 corners took a third to a half longer.
 #[tactic(auto, using(crate::specs::Laws::Crossings::over_high))]
-fn beyond(low: i64, high: i64, c: i64, d: i64) -> bool
+pub fn beyond(low: i64, high: i64, c: i64, d: i64) -> bool
     ensures { result ≡ outside low high c d }
 {
     high < c.min(d) || c.max(d) < low

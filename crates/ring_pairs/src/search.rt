@@ -6,7 +6,7 @@ ghost use Rattle.rules.specs.Crossing.{meets, folds};
 ghost use Rattle.terms.specs.Papers.{corner_of};
 ghost use Rattle.ring_corners.specs.Corners.{pairs};
 ghost use Rattle.ring_boxes.specs.Boxes.{Boxed};
-ghost use Rattle.ring_pairs.specs.Crossings.{leg_away, run_away, straddle, BoxOf, RunsTo, FirstNear, FirstMet, pair_at, pair_after, bad_at};
+ghost use Rattle.ring_pairs.specs.Crossings.{pair_away, leg_away, run_away, straddle, BoxOf, RunsTo, FirstNear, FirstMet, pair_at, pair_after, bad_at};
 
 use crate::meeting;
 use ring_boxes::{BoxedRing, Reach};
@@ -35,19 +35,26 @@ fn fold_at(ring: &BoxedRing, i: usize, j: usize, k: usize) -> bool
     meeting::fold(ring.corner(i), ring.corner(j), ring.corner(k))
 }
 
-// The first edge from number `start` to before `stop` whose box is not away, or `stop`, from where its callers count on. Most pairs of edges end here, and nothing was
-// multiplied.
+// The first number from `start` to before `stop` at which a box is not away, or `stop`, from where its callers count on: the box of that corner of one list and of the corner
+// `shift` numbers on of another. By the ring's corners and the next ones these are the boxes of edges. Most pairs of edges end here, and nothing was multiplied.
 // Corners by themselves and no `Ring`: the search needs no accepted ring, so its caller is asked for none.
 #[tactic(auto, using(crate::specs::Laws::Search::skip_start, crate::specs::Laws::Search::skip_step, crate::specs::Laws::Search::skip_end, crate::specs::Laws::Search::near_here))]
-pub fn first_near(corners: &[i64], around: Reach, start: usize, stop: usize) -> usize
-    requires { (start ≤ stop) × (stop < length (pairs corners.now)) × (stop < 1024) }
-    ensures { FirstNear (leg_away (corner_of around.low) (corner_of around.high) (pairs corners.now)) start stop result }
+pub fn first_near(
+    first: &[i64],
+    second: &[i64],
+    shift: usize,
+    around: Reach,
+    start: usize,
+    stop: usize,
+) -> usize
+    requires { (start ≤ stop) × (stop ≤ length (pairs first.now)) × (stop + shift ≤ length (pairs second.now)) × (stop + shift ≤ 1024) }
+    ensures { FirstNear (pair_away (corner_of around.low) (corner_of around.high) (pairs first.now) (pairs second.now) shift) start stop result }
 {
     for l in start..stop {
         if !meeting::away(
             around,
-            corners::corner_at(corners, l),
-            corners::corner_at(corners, l + 1),
+            corners::corner_at(first, l),
+            corners::corner_at(second, l + shift),
         ) {
             return l;
         }
@@ -96,14 +103,14 @@ pub fn next_near(
     while l < stop {
         let m = l / 16;
         if runs <= m {
-            return first_near(corners, around, l, stop);
+            return first_near(corners, corners, 1, around, l, stop);
         }
         let n = first_run_near(boxes, around, m, runs);
         if m < n {
             l = ring_boxes::run_end(n - 1, stop);
         } else {
             let end = ring_boxes::run_end(m, stop);
-            l = first_near(corners, around, l, end);
+            l = first_near(corners, corners, 1, around, l, end);
             if l < end {
                 return l;
             }

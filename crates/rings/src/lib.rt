@@ -5,7 +5,8 @@
 ghost use Rattle.std.specs.Prelude.{◌≡◌};
 ghost use Rattle.rules.specs.RingAnswers.{crossing_answer, nozzle_answer};
 ghost use Rattle.rings.specs.Answers.{AreaCall, TurningCall, crossing_paper, nozzle_paper, position_answer};
-ghost use Rattle.terms.specs.Papers.{corner_of};
+ghost use Rattle.ring_checks.specs.Checks.{checked};
+ghost use Rattle.terms.specs.Papers.{corner_of, passed_paper};
 
 use ring_turning::turning;
 use terms::{Corner, Position, Refusal};
@@ -15,7 +16,11 @@ mod looked;
 mod standing;
 
 // The checks of a ring by its numbers alone: 6, 7 or 8. Whether it is crossed, 9, is not asked.
-pub use ring_checks::check;
+pub fn check(corners: &[i64]) -> Result<(), Refusal>
+    ensures { passed_paper result ≡ checked corners.now }
+{
+    ring_checks::check(corners)
+}
 
 // The doubled area, positive where the ring runs clockwise on the map. A crossed ring has one too.
 #[tactic(auto, using(ring_checks::proofs::Laws::Steps::refused_bind, ring_checks::proofs::Laws::Steps::answered_bind), unfolding(rules::specs::RingAnswers::area_answer))]

@@ -51,12 +51,12 @@ impl Groups {
     }
 
     // Prints the line of the group that stands.
-    pub fn close(self, rt: &impl Print, name: &str) -> io::Result<()> {
+    pub fn close(self, rt: &impl Print, name: &[u8]) -> io::Result<()> {
         self.tally.print(rt, name, self.group.unwrap_or(0))
     }
 
     // The tally to go on with: the group's own, or a new one, the line of the group before being printed.
-    fn tally_for(self, rt: &impl Print, name: &str, group: u64) -> io::Result<Tally> {
+    fn tally_for(self, rt: &impl Print, name: &[u8], group: u64) -> io::Result<Tally> {
         match self.group {
             Some(before) if before != group => {
                 self.close(rt, name)?;
@@ -70,7 +70,7 @@ impl Groups {
     pub fn with(
         self,
         rt: &impl Print,
-        name: &str,
+        name: &[u8],
         record: &[u8],
         outcome: Outcome,
     ) -> io::Result<Groups> {
@@ -92,6 +92,7 @@ pub fn hold_records<F: Fn(&[u8]) -> Outcome>(
 ) -> io::Result<()>
     requires { F.IsAlwaysCallable outcome_of }
 {
+    let name = name.as_bytes();
     let mut input = rt.reader();
     let mut groups = Groups::new(band);
     // A count, because every loop has to end; no input of the gate is so long.

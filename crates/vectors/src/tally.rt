@@ -23,6 +23,11 @@ pub struct Tally {
     pub largest: [u64; 4],
 }
 
+// One more, as far as a count is worth its number.
+fn more(count: u64) -> u64 {
+    if count < FAR { count + 1 } else { count }
+}
+
 // The sum of two sizes, for numbers on either side of 0.
 fn across(a: u64, b: u64) -> u64 {
     if FAR < a || FAR < b {
@@ -60,20 +65,20 @@ impl Tally {
     }
 
     fn with_wrong(mut self) -> Tally {
-        self.wrong = self.wrong.saturating_add(1);
+        self.wrong = more(self.wrong);
         self
     }
 
     fn with_band(mut self, distances: [u64; 4]) -> Tally {
         let band = self.band;
         if distances.iter().any(|distance| band < *distance) {
-            self.outside = self.outside.saturating_add(1);
+            self.outside = more(self.outside);
         }
         self
     }
 
     fn with_point(mut self, distances: [u64; 4]) -> Tally {
-        self.points = self.points.saturating_add(1);
+        self.points = more(self.points);
         for (largest, distance) in self.largest.iter_mut().zip(distances.iter()) {
             *largest = (*largest).max(*distance);
         }
@@ -81,12 +86,12 @@ impl Tally {
     }
 
     fn with_near(mut self, distances: [u64; 4]) -> Tally {
-        self.near = self.near.saturating_add(1);
+        self.near = more(self.near);
         self.with_band(distances)
     }
 
     fn with_refusal(mut self, expected: u64, refusal: u64) -> Tally {
-        self.refused = self.refused.saturating_add(1);
+        self.refused = more(self.refused);
         if expected == refusal {
             return self;
         }
@@ -104,8 +109,9 @@ impl Tally {
     }
 
     // Prints the group's line: the call's name, the group, and what was counted.
-    pub fn print(self, rt: &impl Print, name: &str, group: u64) -> io::Result<()> {
-        println!(rt; "{name} {group}{self}")
+    pub fn print(self, rt: &impl Print, name: &[u8], group: u64) -> io::Result<()> {
+        rt.write_all(name)?;
+        println!(rt; " {group}{self}")
     }
 }
 

@@ -57,7 +57,7 @@ stop_crossed (refused m) rest pair e = e
 stop_crossed (crossed_at other) rest pair e = e
 
 module _ (counts : List ℕ) (numbers : List ℤ) where
-  accepting_start : 0 < length counts → Accepted (ring counts numbers 0 0) → Accepting counts numbers (2 * get_or counts 0 0) 1
+  pub accepting_start : 0 < length counts → Accepted (ring counts numbers 0 0) → Accepting counts numbers (2 * get_or counts 0 0) 1
   unfolding summed
   accepting_start h a = record {
     start = let e = summed_more counts 0 h in omega arith;

@@ -114,7 +114,7 @@ module _ (counts : List ℕ) (numbers : List ℤ) (s : List Corner) (h : 0 < len
   abbrev outer : List Corner
   outer = pairs first
 
-  outer_is : (as_field (cut counts numbers)).outer_ring ≡ outer
+  pub outer_is : (as_field (cut counts numbers)).outer_ring ≡ outer
   outer_is = outer_of (cut counts numbers) (let n = length_cut counts numbers in omega arith) ∙ ap pairs (sym e)
 
   by_outer : misplaced (as_field (cut counts numbers)) s ≡ ((rings_meet outer s || first_outside outer s) || entangled_any (as_field (cut counts numbers)).inner_rings s)

@@ -21,7 +21,7 @@ use Rattle.fields.specs.Laws.Cut.{summed_more, summed_most, cut_at, length_cut}
 use Rattle.fields.specs.Walks.{rings_position, inner_position, both_answers, walked}
 
 -- a refusal stays
-walked_refused : (n before : ℕ) (rest : List (List ℤ)) (p : Corner) → walked (refused n) before rest p ≡ refused n
+pub walked_refused : (n before : ℕ) (rest : List (List ℤ)) (p : Corner) → walked (refused n) before rest p ≡ refused n
 unfolding walked both_answers
 walked_refused n before [] p = refl
 walked_refused n before (numbers ∷ rest) p = walked_refused n (suc before) rest p

@@ -24,7 +24,7 @@ or_four false true true d = refl
 or_four false true false d = refl
 or_four false false c d = refl
 
-any_axes : (r : List Corner) → any_bad r ≡ (any_outside (map (λ (c : Corner). c.x) r) || any_outside (map (λ (c : Corner). c.y) r))
+pub any_axes : (r : List Corner) → any_bad r ≡ (any_outside (map (λ (c : Corner). c.x) r) || any_outside (map (λ (c : Corner). c.y) r))
 unfolding any_bad corner_bad
 any_axes [] = refl
 any_axes (c ∷ r) =
@@ -149,16 +149,20 @@ pub record Reaching (f : Corner → ℤ) (r : List Corner) (low high : ℤ) (k :
   pub up : largest high (map f (drop k r)) ≡ largest (f (get_or r 0 origin)) (map f (drop 1 r))
 
 module _ (f : Corner → ℤ) (r : List Corner) {low high : ℤ} {k : ℕ} (s : Reaching f r low high k) where
-  pub reaching_step : k < length r → Reaching f r (int_min low (f (get_or r k origin))) (int_max high (f (get_or r k origin))) (k + 1)
+  pub reaching_step : k < length r → Reaching f r (smaller low (f (get_or r k origin))) (larger high (f (get_or r k origin))) (k + 1)
   unfolding smallest largest
-  reaching_step h = rw (min_is low (f (get_or r k origin)), max_is high (f (get_or r k origin))) (record {
+  reaching_step h = record {
     order = step_order low high (f (get_or r k origin)) s.order;
     down = ap (smallest low) (sym rest) ∙ s.down;
     up = ap (largest high) (sym rest) ∙ s.up;
-  })
+  }
     where
       rest : map f (drop k r) ≡ f (get_or r k origin) ∷ map f (drop (k + 1) r)
       rest = ap (map f) (drop-cons r k origin h ∙ ap (λ (i : ℕ). get_or r k origin ∷ drop i r) (sym (add-one k)))
+
+  -- the same by the library's methods, as the loop has it
+  pub reaching_next : k < length r → Reaching f r (int_min low (f (get_or r k origin))) (int_max high (f (get_or r k origin))) (k + 1)
+  reaching_next h = rw (min_is low (f (get_or r k origin)), max_is high (f (get_or r k origin))) (reaching_step h)
 
   -- of all corners, as checks 7 and 8 ask
   pub record Reached : Type 0 where

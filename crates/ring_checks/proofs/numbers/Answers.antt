@@ -6,7 +6,7 @@ use Rattle.std.proofs.lemmas.Result.{err_from_is_err_and}
 use Rattle.rules.specs.Rings.{Corner}
 use Rattle.ring_corners.specs.Corners.{pairs}
 use Rattle.ring_corners.specs.Laws.Flat.{count_half}
-use Rattle.ring_checks.proofs.Laws.Axis.{reaching_step, numbers_end}
+use Rattle.ring_checks.proofs.Laws.Axis.{reaching_next, numbers_end}
 use Rattle.ring_checks.proofs.Laws.Steps.{refused_then, answered_then}
 use Rattle.ring_checks.proofs.numbers.Goals as goal
 
@@ -26,8 +26,8 @@ loop-k-preserved c =
     let x = ap (λ (c : Corner). c.x) c.corner_at-corner.ensures in
     let y = ap (λ (c : Corner). c.y) c.corner_at-corner.ensures in
     record {
-      north = grind (arith, to_z-of_z, reaching_step (λ (c : Corner). c.x) r c.loop-k.invariant.north (omega arith), x);
-      east = grind (arith, to_z-of_z, reaching_step (λ (c : Corner). c.y) r c.loop-k.invariant.east (omega arith), y);
+      north = grind (arith, to_z-of_z, reaching_next (λ (c : Corner). c.x) r c.loop-k.invariant.north (omega arith), x);
+      east = grind (arith, to_z-of_z, reaching_next (λ (c : Corner). c.y) r c.loop-k.invariant.east (omega arith), y);
     }
 
 pub returns-in_err-inside : goal.returns-in_err-inside

@@ -70,7 +70,7 @@ apart_is a b c d =
     (ap₂ ◌&&◌ (smaller_above a b c) (smaller_above a b d))
     ∙ sym (neither ((lt_z a c && lt_z a d) && (lt_z b c && lt_z b d)) ((lt_z c a && lt_z c b) && (lt_z d a && lt_z d b)))
 
-outside_is : (low high c d : ℤ) → (lt_z high (smaller c d) || lt_z (larger c d) low) ≡ outside low high c d
+pub outside_is : (low high c d : ℤ) → (lt_z high (smaller c d) || lt_z (larger c d) low) ≡ outside low high c d
 unfolding outside
 outside_is low high c d = ap₂ ◌||◌ (smaller_above c d high) (larger_below c d low)
 
